@@ -1,0 +1,5 @@
+pub mod Bits
+pub mod Denials
+pub mod Rows
+pub mod Index
+pub mod Model

@@ -1,0 +1,5 @@
+pub mod Keeps
+pub mod Steps
+pub mod Admits
+pub mod Spreads
+pub mod Draws

@@ -1,0 +1,3 @@
+pub mod Past
+pub mod Scans
+pub mod Placings

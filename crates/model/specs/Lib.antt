@@ -1,0 +1,12 @@
+pub mod Book
+pub mod Steps
+pub mod Consecutive
+pub mod Skipping
+pub mod Noop
+pub mod Past
+pub mod Laws
+pub mod Walks
+pub mod Steady
+pub mod View
+pub mod Parts
+pub mod SkipParts

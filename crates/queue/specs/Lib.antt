@@ -1,0 +1,4 @@
+pub mod Places
+pub mod Waiting
+pub mod Order
+pub mod Queue

@@ -1,0 +1,9 @@
+pub mod Enters
+pub mod Gains
+pub mod Visits
+pub mod Draws
+pub mod Begins
+pub mod Takes
+pub mod Numbers
+pub mod Whole
+pub mod Adding

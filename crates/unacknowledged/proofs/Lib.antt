@@ -1,0 +1,4 @@
+pub mod RowIds
+pub mod Turns
+pub mod Listings
+pub mod Pasts

@@ -1,0 +1,11 @@
+use mathlib.Core.Path.{_≡_, refl, sym, ap, _∙_}
+use Rattle.walk.specs.View.{view, marks, places, numbered, mark-places, mark-numbered}
+use Rattle.walk.proofs.state.State.lower_count.Needs as need
+
+pub sub-self : need.sub-self
+unfolding view
+sub-self c = c .pre
+
+pub returns : need.returns
+unfolding view marks places numbered mark-places mark-numbered
+returns c = record { is = refl; quiet = record { aside = record { rooms = record { places = refl; mark-places = refl }; marks = refl; mark-numbered = refl }; numbered = refl } }
