@@ -1,4 +1,6 @@
 // A moment by the calendar, in universal time.
+#![tactic(auto)]
+
 ghost use Rattle.std.specs.Prelude.{ℕ, ◌+◌, ◌^◌, ◌<◌, ◌≤◌};
 
 use std::fmt;

@@ -1,5 +1,7 @@
 // The text of a commit, read by its lines, as Git lays it out: a tree, any number of parents, an author, a committer
 // with the date. What follows these lines is not read.
+#![tactic(auto)]
+
 ghost use Rattle.std.specs.Prelude.{◌≡◌, ℕ, ◌+◌, ◌-◌, ◌*◌, ◌^◌, ◌<◌, ◌≤◌, List, [], ◌∷◌, ◌++◌, length, ℤ, Some, MatchOption};
 ghost use Rattle.std.specs.List.{slice_get};
 ghost use Rattle.commit.specs.Layout.{upward, downward, hexb, digitb, lines_of, words_of, nameb, hex_bytes, amount_of, moment_of, zoneb, all_digits, stamp, hex_value, name_of, committer_of, parents_of, commit_of, reading_of, fits};

@@ -1,4 +1,6 @@
 // The consecutive walk: it offers every commit that is not known to be common, the latest first.
+#![tactic(auto)]
+
 ghost use Rattle.model.specs.Steady.{Fit};
 ghost use Rattle.walk.specs.View.{view, numbered, places, mark_places};
 

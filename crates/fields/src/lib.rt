@@ -1,4 +1,6 @@
 // Fields of a buffer, taken apart by slice patterns, and the pairs of an id and a text that they make up.
+#![tactic(auto)]
+
 ghost use Rattle.std.specs.Prelude.{◌≡◌, ℕ, ◌+◌, ◌-◌, ◌^◌, ◌<◌, ◌≤◌, length, drop, MatchOption};
 ghost use Rattle.fields.specs.Fields.{long, Field};
 ghost use Rattle.fields.specs.declared.Pair.TheVariants.{Bad};

@@ -1,4 +1,6 @@
 // Plays the calls of a recorded walk on standard input, and prints what each of them gave back.
+#![tactic(auto)]
+
 use session::transcript::transcript;
 use std::io;
 use std::io::Read;

@@ -1,4 +1,6 @@
 // A store with an index: opened in one pass, then a question costs one search of the index and one text.
+#![tactic(auto)]
+
 ghost use Rattle.std.specs.Prelude.{◌≡◌, ℕ, List, length};
 ghost use Rattle.std.specs.BTreeMap.{get as place_in};
 ghost use Rattle.fields.specs.Pairs.{scan};

@@ -1,4 +1,6 @@
 // What a recorded walk holds: a store, a negotiator and calls, one field after another.
+#![tactic(auto)]
+
 ghost use Rattle.std.specs.Prelude.{◌≡◌, ℕ, ◌+◌, ◌-◌, ◌*◌, ◌^◌, ◌<◌, ◌≤◌, [], ◌∷◌, length, IfOk, MatchOption};
 ghost use Rattle.input.specs.Inputs.{tag_of, algorithm_of, call_of, misfit_from, calls_of, numbered, parsed, parsed_within, heard};
 

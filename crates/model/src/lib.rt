@@ -1,4 +1,6 @@
 // The walk's rules as relations between states, and the laws that hold of every past.
+#![tactic(auto)]
+
 ghost use Rattle.model.specs.Laws.{EveryPastLawful, EveryCallPops, EveryCallFixed};
 ghost use Rattle.model.specs.Walks.{WalkChain, WalkWaits, WalkLost, WalkKnown, WalkMerge, WalkFull, WalkNear, WalkNearTold};
 ghost use Rattle.model.specs.Walks.{WalkLostTold, WalkDates, WalkSkips, WalkSkipTold, WalkPins, WalkEdge, WalkNoop};

@@ -1,4 +1,6 @@
 // The negotiators' one interface, and what is said of it alone: names, windows, calls played in turn.
+#![tactic(auto)]
+
 ghost use Rattle.std.specs.Prelude.{◌≡◌, ℕ, vec_len};
 ghost use Rattle.model.specs.Book.{Walk, made};
 ghost use Rattle.model.specs.Laws.{Answers};

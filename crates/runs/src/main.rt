@@ -1,4 +1,6 @@
 // Prints what `haves` prints for each of many inputs, which stand one after another behind their lengths.
+#![tactic(auto)]
+
 use session::transcript::transcript;
 use std::io;
 use std::io::Read;

@@ -1,4 +1,6 @@
 // A recorded walk played from a book's making to its last call.
+#![tactic(auto)]
+
 ghost use Rattle.std.specs.Prelude.{◌≡◌, length, IfOk, vec_len};
 ghost use Rattle.session.specs.Sessions.{Sized, Whole};
 

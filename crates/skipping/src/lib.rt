@@ -1,4 +1,6 @@
 // The skipping walk: it offers fewer and fewer commits the further it gets, and marks all ancestors of a common one.
+#![tactic(auto)]
+
 ghost use Rattle.model.specs.Steady.{SkipFit};
 ghost use Rattle.walk.specs.View.{view, numbered, places, mark_places};
 

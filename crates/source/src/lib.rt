@@ -1,4 +1,6 @@
 // Where commits come from: ids, faults, and what every source of commits promises.
+#![tactic(auto)]
+
 ghost use Rattle.std.specs.Prelude.{◌≡◌, ℕ};
 ghost use Rattle.std.specs.Str.{bytes_eq};
 ghost use Rattle.source.specs.Meaning.{Meaning, number_of, kind_of, fault_of, date_of, count_of, parent_of};

@@ -1,4 +1,6 @@
 // Tests of the sources: bad input of every kind, asked of the plain and of the indexed store.
+#![tactic(auto)]
+
 ghost use Rattle.source.specs.Meaning.{absent};
 
 use indexed::Indexed;

@@ -1,4 +1,6 @@
 // A store: ids and commit texts in one buffer.
+#![tactic(auto)]
+
 ghost use Rattle.std.specs.Prelude.{◌≡◌};
 ghost use Rattle.source.specs.Meaning.{kind_of, fault_of, date_of, count_of, parent_of};
 ghost use Rattle.fields.specs.Pairs.{pair_at};

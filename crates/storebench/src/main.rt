@@ -1,5 +1,7 @@
 // Stores of 1,000, 10,000 and 60,000 commits, asked about every one of them. With the argument `time` it also says how
 // fast a store is opened and how many questions it answers in a second.
+#![tactic(auto)]
+
 use indexed::Indexed;
 use source::{Kind, ObjectId, Source};
 use std::alloc::{AllocError, Global};

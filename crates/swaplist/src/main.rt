@@ -1,4 +1,6 @@
 // Prints what is to be copied before a swap: the haves of a recorded walk that no acknowledgement named.
+#![tactic(auto)]
+
 use anyhow::anyhow;
 use book::types::Row;
 use calendar::at;

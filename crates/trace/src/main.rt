@@ -1,5 +1,7 @@
 // Plays scenarios from standard input and prints what each call gives. With the argument `replay`, the answers stand in
 // the input too, each after a `=`, and it says how many scenarios give another one, and shows the first.
+#![tactic(auto)]
+
 use crate::reading::{Scenario, at_end};
 use anyhow::anyhow;
 use model::Algorithm;

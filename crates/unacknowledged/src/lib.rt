@@ -1,4 +1,6 @@
 // The haves of a run that no accepted acknowledgement named, and whether the run may be acted on.
+#![tactic(auto)]
+
 use source::ObjectId;
 
 pub mod judging;
