@@ -17,7 +17,7 @@ TOKEN = re.compile(r"(?<!" + WORD + r")[A-Za-z]" + WORD + r"*")
 TOP = re.compile(r"^(?:abbrev |unfoldable |pub |data |record |ruleset )*([A-Za-z][^\s:({]*)\s+:", re.M)
 HEAD = re.compile(r"^(?:abbrev |unfoldable )?(?:pub )?(?:data|record) ([A-Za-z][^\s:({]*)", re.M)
 PART = re.compile(r"^  (?:pub )?([A-Za-z][^\s:({]*)\s+:", re.M)
-INNER = re.compile(r"^  (?:abbrev |unfoldable |pub )*([A-Za-z][^\s:({]*[-A-Z][^\s:({]*)\s+:\s", re.M)
+INNER = re.compile(r"^ {2,}(?:abbrev |unfoldable |pub )*([A-Za-z][^\s:({]*[-A-Z][^\s:({]*)\s+:\s", re.M)
 GOAL = re.compile(r"^(?:abbrev |unfoldable |pub )*([A-Za-z][^\s:({]*)\s+:\s*goal\.", re.M)
 
 # Names that would fall together with another one, or with a variable of the same spelling.

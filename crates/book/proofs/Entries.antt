@@ -1,15 +1,13 @@
 -- What a write to rows and links does to the entries.
-use Rattle.std.proofs.Common.{◌≡◌, ℕ, zero, suc, ◌+◌, ◌-◌, ◌<◌, ◌≤◌, ◌≢◌, List, [], ◌∷◌, ◌++◌, map, length, get_or, take, drop, set, ℤ, Some, None, sym, refl, ap, ◌∙◌, ⊎_elim, suc-le-suc, zero-le, arith}
+use Rattle.std.proofs.Common.{◌≡◌, ℕ, suc, ◌+◌, ◌<◌, ◌≤◌, List, [], ◌∷◌, ◌++◌, map, length, get_or, take, drop, set, Some, None, sym, refl, ap, ◌∙◌, suc-le-suc, arith}
 use lib.Seq.{paste}
-use Rattle.std.proofs.lemmas.List.{append_assoc, drop-take, take-take, take_at, drop_at, length-take-le, take_all, take_more_set, map_push, get_or-take, get_or-set_same, get_or-set_other}
+use Rattle.std.proofs.lemmas.List.{append_assoc, drop-take, take-take, take_at, drop_at, length-take-le, take_all, get_or-take}
 use Rattle.std.proofs.lemmas.List.Edits.{take-paste, paste_more}
 use Rattle.std.proofs.lemmas.Option.{slice_get-get_or}
 use Rattle.std.specs.List.{slice_get}
-use Rattle.std.proofs.lemmas.Bool.{cases_eq}
 use Rattle.source.specs.declared.ObjectId.{ObjectId}
 use Rattle.book.specs.declared.types.Row.{Row}
 use Rattle.book.specs.Rows.{Entry, entry, Inside}
-use Rattle.book.specs.Model.{fresh}
 
 part : (f c : ℕ) (xs : List ObjectId) → take c (drop f xs) ≡ drop f (take (f + c) xs)
 part f c xs = sym (drop-take f c xs)

@@ -1,11 +1,10 @@
 -- A row of a book and its entry.
-use Rattle.std.proofs.Common.{◌≡◌, ℕ, ◌+◌, ◌-◌, ◌<◌, ◌≤◌, List, [], ◌∷◌, map, length, get_or, take, drop, vec_items, vec_len, sym, refl, ap, ◌∙◌, arith}
-use Rattle.std.proofs.lemmas.List.{get_or-map, get_or-take, get_or-drop, length-map, length-take-le, length-drop}
-use Rattle.source.specs.declared.ObjectId.{ObjectId}
+use Rattle.std.proofs.Common.{◌≡◌, ℕ, ◌<◌, length, get_or, take, drop, vec_items, ap, ◌∙◌, arith}
+use Rattle.std.proofs.lemmas.List.{get_or-map, get_or-take, length-map, length-take-le, length-drop}
 use Rattle.book.specs.declared.types.Row.{Row}
 use Rattle.book.specs.declared.book.Book.{Book}
-use Rattle.book.specs.Rows.{Entry, entry, no_id}
-use Rattle.book.specs.Model.{Model, model, no_entry}
+use Rattle.book.specs.Rows.{entry}
+use Rattle.book.specs.Model.{model, no_entry}
 
 pub entries_long : (b : Book) → length (model b).entries ≡ b.used
 entries_long b = length-map (take b.used (vec_items b.rows)) (entry (vec_items b.links)) ∙ length-take-le b.used (vec_items b.rows) (omega (arith, b.within, b.lent, b.rows.ok.0))

@@ -1,12 +1,12 @@
 -- The two writes that bring a row in: the row itself, and its bucket's head.
-use Rattle.std.proofs.Common.{◌≡◌, ℕ, zero, suc, ◌+◌, ◌-◌, ◌<◌, ◌≤◌, Bool, true, false, cond, ◌≢◌, List, [], ◌∷◌, ◌++◌, map, length, get_or, take, set, None, sym, refl, ap, ◌∙◌, subst, ⊎_elim, arith}
+use Rattle.std.proofs.Common.{◌≡◌, ℕ, ◌+◌, ◌<◌, ◌≤◌, ◌≢◌, List, [], ◌∷◌, ◌++◌, map, length, get_or, take, set, None, sym, refl, ap, ◌∙◌, subst, ⊎_elim, arith}
 use Rattle.std.proofs.lemmas.Bool.{cases_eq}
 use Rattle.std.proofs.lemmas.List.{get_or-set_same, get_or-set_other, get_or-map, map-set, set-get_or, take-map, take_more_set, length-map, length-set}
 use Rattle.source.specs.declared.ObjectId.{ObjectId}
 use Rattle.book.specs.declared.types.Metadata.{Metadata}
 use Rattle.book.specs.declared.types.Row.{Row}
 use Rattle.source.specs.Ids.{place}
-use Rattle.book.specs.Rows.{Entry, entry, no_id, Inside}
+use Rattle.book.specs.Rows.{Entry, entry, Inside}
 use Rattle.book.specs.Index.{hash, id_of, head_of, next_of, Chain, Heads, Apart, Chained, Headed, Distinct}
 use Rattle.book.proofs.Chains.{chain_push, heads_push, apart_push}
 
@@ -61,8 +61,8 @@ module _ (rows : List Row) (used : ℕ) (new : Row) (h : ℕ) (x : Row) (v : ℕ
       (cases_eq k used)
 
   module _ (m : ℕ) (lu : used < length rows) (lm : m ≤ length rows) (hh : h ≡ hash new.id m) (lhm : h < m) where
-    ids-after : map id_of after ≡ set (map id_of rows) used new.id
-    ids-after = two_writes id_of (λ r n. refl)
+    ids_after : map id_of after ≡ set (map id_of rows) used new.id
+    ids_after = two_writes id_of (λ r n. refl)
 
     lid : used < length (map id_of rows)
     lid = simp length-map lu
@@ -76,30 +76,30 @@ module _ (rows : List Row) (used : ℕ) (new : Row) (h : ℕ) (x : Row) (v : ℕ
     lhash : hash new.id m < m
     lhash = omega arith
 
-    nexts-after : new.next ≡ get_or (map head_of rows) h 0 → map next_of after ≡ set (map next_of rows) used (get_or (map head_of rows) (hash new.id m) 0)
-    nexts-after n = two_writes next_of (λ r k. refl) ∙ (ap (set (map next_of rows) used) n ∙ ap (λ (a : ℕ). set (map next_of rows) used (get_or (map head_of rows) a 0)) hh)
+    nexts_after : new.next ≡ get_or (map head_of rows) h 0 → map next_of after ≡ set (map next_of rows) used (get_or (map head_of rows) (hash new.id m) 0)
+    nexts_after n = two_writes next_of (λ r k. refl) ∙ (ap (set (map next_of rows) used) n ∙ ap (λ (a : ℕ). set (map next_of rows) used (get_or (map head_of rows) a 0)) hh)
 
-    heads-after : new.head ≡ get_or (map head_of rows) used 0 → v ≡ used + 1 → map head_of after ≡ set (map head_of rows) (hash new.id m) (used + 1)
-    heads-after n vv =
+    heads_after : new.head ≡ get_or (map head_of rows) used 0 → v ≡ used + 1 → map head_of after ≡ set (map head_of rows) (hash new.id m) (used + 1)
+    heads_after n vv =
         map-set head_of (set rows used new) h (head_row x v)
         ∙ (ap (λ (xs : List ℕ). set xs h v) (map-set head_of rows used new ∙ (ap (set (map head_of rows) used) n ∙ set-get_or (map head_of rows) used 0))
         ∙ (ap (λ (a : ℕ). set (map head_of rows) a v) hh ∙ ap (set (map head_of rows) (hash new.id m)) vv))
 
-    pub chained-after : new.next ≡ get_or (map head_of rows) h 0 → Chained rows m used → Headed rows m used → Chained after m (used + 1)
-    chained-after n ch hd =
-        subst (λ (xs : List ObjectId). Chain xs (map next_of after) m (used + 1)) (sym ids-after)
-        (subst (λ (ns : List ℕ). Chain (set (map id_of rows) used new.id) ns m (used + 1)) (sym (nexts-after n))
+    pub chained_after : new.next ≡ get_or (map head_of rows) h 0 → Chained rows m used → Headed rows m used → Chained after m (used + 1)
+    chained_after n ch hd =
+        subst (λ (xs : List ObjectId). Chain xs (map next_of after) m (used + 1)) (sym ids_after)
+        (subst (λ (ns : List ℕ). Chain (set (map id_of rows) used new.id) ns m (used + 1)) (sym (nexts_after n))
         (chain_push (map id_of rows) (map head_of rows) (map next_of rows) m used new.id lid lnx lhash ch hd))
 
-    pub headed-after : new.head ≡ get_or (map head_of rows) used 0 → v ≡ used + 1 → Headed rows m used → Headed after m (used + 1)
-    headed-after n vv hd =
-        subst (λ (xs : List ObjectId). Heads xs (map head_of after) m (used + 1)) (sym ids-after)
-        (subst (λ (ns : List ℕ). Heads (set (map id_of rows) used new.id) ns m (used + 1)) (sym (heads-after n vv))
+    pub headed_after : new.head ≡ get_or (map head_of rows) used 0 → v ≡ used + 1 → Headed rows m used → Headed after m (used + 1)
+    headed_after n vv hd =
+        subst (λ (xs : List ObjectId). Heads xs (map head_of after) m (used + 1)) (sym ids_after)
+        (subst (λ (ns : List ℕ). Heads (set (map id_of rows) used new.id) ns m (used + 1)) (sym (heads_after n vv))
         (heads_push (map id_of rows) (map head_of rows) (map next_of rows) m used new.id lid lhd lhash hd))
 
-    pub distinct-after : None ≡ place new.id (map id_of (take used rows)) 0 → Distinct rows used → Distinct after (used + 1)
-    distinct-after none ap' =
-        subst (λ (xs : List ObjectId). Apart xs (used + 1)) (sym ids-after)
+    pub distinct_after : None ≡ place new.id (map id_of (take used rows)) 0 → Distinct rows used → Distinct after (used + 1)
+    distinct_after none ap' =
+        subst (λ (xs : List ObjectId). Apart xs (used + 1)) (sym ids_after)
         (apart_push (map id_of rows) (map head_of rows) (map next_of rows) m used new.id lid (none ∙ ap (λ (xs : List ObjectId). place new.id xs 0) (sym (take-map id_of used rows))) ap')
 
 -- a write that keeps what the index reads

@@ -1,11 +1,9 @@
 -- A lookup, way by way.
-use Rattle.std.proofs.Common.{◌≡◌, ℕ, ◌+◌, ◌-◌, ◌<◌, ◌≤◌, Bool, true, false, cond, ltb, List, [], ◌∷◌, ◌++◌, map, length, get_or, take, drop, set, ℤ, Some, None, Ok, Err, vec_items, vec_len, Option, Result, sym, refl, ap, ◌∙◌, arith}
+use Rattle.std.proofs.Common.{◌≡◌, ℕ, ◌+◌, ◌<◌, ◌≤◌, Bool, true, false, cond, ltb, List, [], ◌∷◌, ◌++◌, map, length, take, drop, ℤ, Some, None, Ok, Err, vec_items, vec_len, Option, Result, sym, refl, ap, ◌∙◌, arith}
 use lib.Seq.{paste}
-use Rattle.std.proofs.lemmas.List.{length-map, length-take-le}
 use Rattle.std.proofs.lemmas.List.Edits.{length-paste}
 use Rattle.std.proofs.lemmas.Bool.{cond-true, cond-false, lt-ltb, le-ltb, ltb-true, ltb-false}
 use Rattle.source.specs.declared.ObjectId.{ObjectId}
-use Rattle.book.specs.declared.types.Row.{Row}
 use Rattle.book.specs.declared.types.Denial.{Denial}
 use Rattle.book.specs.declared.types.Denial.TheVariants.{RowsFull, LinksFull}
 use Rattle.book.specs.declared.book.Book.{Book}

@@ -1,5 +1,5 @@
 -- A book as its user sees it, and a lookup in it.
-use Rattle.std.specs.Prelude.{◌≡◌, ℕ, zero, suc, ◌+◌, Bool, true, false, cond, List, [], ◌∷◌, ◌++◌, map, length, get_or, take, drop, ℤ, pos, Some, None, Ok, Err, vec_items, vec_len, Option, Result, bit_or, nat_lt, slice_index_or}
+use Rattle.std.specs.Prelude.{◌≡◌, ℕ, zero, suc, ◌+◌, Bool, true, false, cond, List, [], ◌∷◌, ◌++◌, map, length, get_or, take, drop, ℤ, pos, Some, None, Ok, Err, vec_items, Option, Result, bit_or, nat_lt, slice_index_or}
 use Rattle.std.proofs.Math.Seq.{paste}
 use Rattle.std.specs.List.{slice_get}
 use Rattle.source.specs.declared.ObjectId.{ObjectId}

@@ -1,7 +1,6 @@
 -- What rows over links stand for.
-use Rattle.std.specs.Prelude.{ℕ, ◌+◌, ◌<◌, ◌≤◌, List, map, length, take, drop, replicate, ℤ, pos, slice_index_or}
+use Rattle.std.specs.Prelude.{ℕ, ◌+◌, ◌<◌, ◌≤◌, List, take, drop, replicate, ℤ, pos, slice_index_or}
 use Rattle.source.specs.declared.ObjectId.{ObjectId}
-use Rattle.book.specs.declared.types.Flags.{Flags}
 use Rattle.book.specs.declared.types.Metadata.{Metadata}
 use Rattle.book.specs.declared.types.Row.{Row}
 

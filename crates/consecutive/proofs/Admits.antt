@@ -47,15 +47,15 @@ module _ (s t : State) (k mask f : ℕ) (F : Fits Fit s) (l : k < length (view s
         omega (arith, a, b)
 
     module _ (qv : Quiet u v) (ev : view v ≡ recount (view u) ((view u).count + n)) where
-      pub yes-is : view v ≡ entered (unpack mask) (view s) k
-      yes-is = admitted_yes (view s) (view t) (view u) (view v) k mask f n l ad e h et eu ev en
+      pub yes_is : view v ≡ entered (unpack mask) (view s) k
+      yes_is = admitted_yes (view s) (view t) (view u) (view v) k mask f n l ad e h et eu ev en
 
-      pub yes-aside : Aside s v
-      yes-aside = aside_trans s t v qt.aside (aside_trans t u v au qv.aside)
+      pub yes_aside : Aside s v
+      yes_aside = aside_trans s t v qt.aside (aside_trans t u v au qv.aside)
 
-      pub yes-fits : Fits Fit v
-      yes-fits = fits_step Fit s v F yes-aside.rooms
-          (λ x. subst (λ (w : Walk). Fit w (numbered v) (places s) (mark_places s)) (sym yes-is) ((admit_fit (view s) k mask _ _ _ x l ad (lacks h)).fit (numbered v) (omega (arith, nu, qt.numbered, qv.numbered))))
+      pub yes_fits : Fits Fit v
+      yes_fits = fits_step Fit s v F yes_aside.rooms
+          (λ x. subst (λ (w : Walk). Fit w (numbered v) (places s) (mark_places s)) (sym yes_is) ((admit_fit (view s) k mask _ _ _ x l ad (lacks h)).fit (numbered v) (omega (arith, nu, qt.numbered, qv.numbered))))
 
 -- COMMON
 module _ (s t : State) (k f n : ℕ) (F : Fits Fit s) (l : k < length (view s).rows) (un : (flags_at (view s) k).common ≡ false) (e : unpack f ≡ flags_at (view s) k)

@@ -43,18 +43,18 @@ module _ (w u : State) (k : ℕ) (F : Fits Fit w) (d : Drew (view w) (Some k) (v
 
   module _ (v z : State) (f n : ℕ) (ef : unpack f ≡ flags_at (view u) k) (qv : Quiet u v) (ev : view v ≡ change (view u) k (join POPPED (flags_at (view u) k)) (view u).queue (view u).count)
       (qz : Quiet v z) (ez : view z ≡ recount (view v) ((view v).count - n)) (en : n ≡ cond (unpack f).common 0 1) where
-    flags-then : unpack f ≡ flags_at (view w) k
-    flags-then = ef ∙ ap (λ (x : Walk). flags_at x k) d.4
+    flags_then : unpack f ≡ flags_at (view w) k
+    flags_then = ef ∙ ap (λ (x : Walk). flags_at x k) d.4
 
     is : view z ≡ taken (view w) k d.1
-    is = taken_is (view w) (view v) (view z) k f n d.1 flags-then (ev ∙ ap (λ (x : Walk). change x k (join POPPED (flags_at x k)) x.queue x.count) d.4) ez en
+    is = taken_is (view w) (view v) (view z) k f n d.1 flags_then (ev ∙ ap (λ (x : Walk). change x k (join POPPED (flags_at x k)) x.queue x.count) d.4) ez en
 
-    pub taken-fits : Fits Fit z
-    taken-fits = fits_quiet Fit w z F (quiet_trans w u z qu (quiet_trans u v z qv qz))
+    pub taken_fits : Fits Fit z
+    taken_fits = fits_quiet Fit w z F (quiet_trans w u z qu (quiet_trans u v z qv qz))
         (λ i p m x. subst (λ (y : Walk). Fit y i p m) (sym is) (subst (λ (j : ℕ). Fit (taken (view w) j d.1) i p m) d.3 (taken_fit (view w) i p m d.0 d.1 x d.2)))
 
-    pub taken-grows : Ext (view w) (view z)
-    taken-grows = subst (λ (x : Walk). Ext (view w) x) (sym is) (taken_ext (view w) k d.0 d.1 inside d.2)
+    pub taken_grows : Ext (view w) (view z)
+    taken_grows = subst (λ (x : Walk). Ext (view w) x) (sym is) (taken_ext (view w) k d.0 d.1 inside d.2)
 
     pub took : (answered both : Bool) → 0 < (view u).count → answered ≡ not (unpack f).common → both ≡ passes_both (unpack f) → Took (view w) (record { row = k; answered = answered; both = both }) (view z)
     took answered both c a b = record {
@@ -64,7 +64,7 @@ module _ (w u : State) (k : ℕ) (F : Fits Fit w) (d : Drew (view w) (Some k) (v
       value = d.3;
       counted = omega (arith, c, same_count);
       is = is;
-      answers = a ∙ ap (λ (g : Flags). not g.common) flags-then;
-      passes = b ∙ ap (λ (g : Flags). passes_both g) flags-then;
+      answers = a ∙ ap (λ (g : Flags). not g.common) flags_then;
+      passes = b ∙ ap (λ (g : Flags). passes_both g) flags_then;
       inside = subst (λ (x : Walk). k < length x.rows) (sym is) (omega (arith, inside, taken_long (view w) k d.1));
     }

@@ -39,17 +39,17 @@ module _ (src : Source) (g : ℕ) (i : ObjectId) (w u : State) (t : Walk) (k : �
     queue = mark_placed t k (g + 1) (marks w) (marks v) (join COMMON (flags_at t k)) t.queue (t.count - cond (waits (flags_at t k)) 1 0) (lookup_ext src (view w) i k t l).1
         (mv ∙ ap {B = Marks} (λ (x : Walk). place_mark x.rows (record { row = k; generation = g + 1 }) (marks u)) eu ∙ ap {B = Marks} (λ q. place_mark (commoned t k).rows (record { row = k; generation = g + 1 }) q) mu)
 
-    pub gain-is : SpreadOne src g i (marks w) (view w) (Ok tt) (marks v) (view v)
-    gain-is = spread_gains src g i (marks w) (marks v) (view w) t (view v) k l un is queue
+    pub gain_is : SpreadOne src g i (marks w) (view w) (Ok tt) (marks v) (view v)
+    gain_is = spread_gains src g i (marks w) (marks v) (view w) t (view v) k l un is queue
 
-    pub gain-held : g ≤ common_rows (view w) → Held (view v) (marks v) (mark_numbered v) 0
-    gain-held y = gains_held src g (mark_numbered w) (mark_numbered v) i (marks w) (marks v) (view w) t (view v) k l un is queue H y (omega (arith, nv, nu))
+    pub gain_held : g ≤ common_rows (view w) → Held (view v) (marks v) (mark_numbered v) 0
+    gain_held y = gains_held src g (mark_numbered w) (mark_numbered v) i (marks w) (marks v) (view w) t (view v) k l un is queue H y (omega (arith, nv, nu))
 
     pub gain_ext : Ext (view w) (view v)
     gain_ext = gains_ext src (view w) t (view v) i k l is
 
-    pub gain-pays : length (marks v) + common_rows (view w) ≤ length (marks w) + common_rows (view v)
-    gain-pays = gains_pays src (marks w) (marks v) (view w) t (view v) i k (g + 1) l un is queue
+    pub gain_pays : length (marks v) + common_rows (view w) ≤ length (marks w) + common_rows (view v)
+    gain_pays = gains_pays src (marks w) (marks v) (view w) t (view v) i k (g + 1) l un is queue
 
 -- a row drawn from the marking queue
 module _ (u d : State) (e : Entry Step) (x : Step) (eq : marks u ≡ e ∷ marks d) (value : e.value ≡ x) (same : view d ≡ view u) where

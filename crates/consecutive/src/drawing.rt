@@ -28,7 +28,7 @@ fn outcome(flags: Flags) -> (bool, bool)
 impl Algorithm {
     // Pushes an id with what is passed on, unless its row has SEEN.
     fn push_unseen<S: Source>(&mut self, source: &S, id: ObjectId, both: bool) -> Result<(), Denial>
-        ensures is { PushUnseen (meaning source.now) (passed_on both) id (walk self.old) (ended result (walk self.new)) }
+        ensures is { PushUnseen (S.meaning source.now) (passed_on both) id (walk self.old) (ended result (walk self.new)) }
         ensures grows { Ext (walk self.old) (walk self.new) }
     {
         if self.state.has_seen(id) {
@@ -42,7 +42,7 @@ impl Algorithm {
 
     // A drawn row passes on to one parent.
     fn pass_one<S: Source>(&mut self, source: &S, id: ObjectId, both: bool) -> Result<(), Denial>
-        ensures is { PassedOne (meaning source.now) both id (walk self.old) result (walk self.new) }
+        ensures is { PassedOne (S.meaning source.now) both id (walk self.old) result (walk self.new) }
         ensures grows { Ext (walk self.old) (walk self.new) }
     {
         self.push_unseen(source, id, both)?;
@@ -55,7 +55,7 @@ impl Algorithm {
     // A drawn row passes on to its parents.
     fn pass<S: Source>(&mut self, source: &S, row: usize, both: bool) -> Result<(), Denial>
         requires inside { row < length (walk self.old).rows }
-        ensures is { Pass (meaning source.now) both (parents_at self.old row) (walk self.old) (ended result (walk self.new)) }
+        ensures is { Pass (S.meaning source.now) both (parents_at self.old row) (walk self.old) (ended result (walk self.new)) }
         ensures grows { Ext (walk self.old) (walk self.new) }
     {
         let count = self.state.head(row).parents;
@@ -90,7 +90,7 @@ impl Algorithm {
 
     // Draws until it has something to answer.
     pub(crate) fn next<S: Source>(&mut self, source: &S) -> Result<Option<usize>, Denial>
-        ensures is { Next (meaning source.now) (walk self.old) (haves result) (walk self.new) }
+        ensures is { Next (S.meaning source.now) (walk self.old) (haves result) (walk self.new) }
     {
         loop {
             let Some(turn) = self.draw_row() else {

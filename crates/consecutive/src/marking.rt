@@ -101,7 +101,7 @@ impl Algorithm {
 impl Algorithm {
     // The row of an id, which comes in from the source where there is none yet.
     fn lookup<S: Source>(&mut self, source: &S, id: ObjectId) -> Result<Option<usize>, Denial>
-        ensures is { Looks (meaning source.now) (walk self.old) id (walk self.new) result }
+        ensures is { Looks (S.meaning source.now) (walk self.old) id (walk self.new) result }
         ensures quiet { Quiet self.old.state self.new.state }
     {
         self.state.lookup(source, id)
@@ -115,7 +115,7 @@ impl Algorithm {
         mask: Flags,
     ) -> Result<(), Denial>
         requires { (mask.bits ≡ 8) ⊎ (((mask.bits ≡ 40) ⊎ (mask.bits ≡ 12)) × (sees (walk self.old) id ≡ false)) }
-        ensures is { Push (meaning source.now) (unpack mask.bits) id (walk self.old) (ended result (walk self.new)) }
+        ensures is { Push (S.meaning source.now) (unpack mask.bits) id (walk self.old) (ended result (walk self.new)) }
         ensures grows { Ext (walk self.old) (walk self.new) }
     {
         let Some(row) = self.lookup(source, id)? else {
@@ -134,7 +134,7 @@ impl Algorithm {
     ) -> Result<(), Denial>
         requires held { Held self.old 0 }
         requires young { generation ≤ common_rows (walk self.old) }
-        ensures is { SpreadOne (meaning source.now) generation id (marks self.old) (walk self.old) result (marks self.new) (walk self.new) }
+        ensures is { SpreadOne (S.meaning source.now) generation id (marks self.old) (walk self.old) result (marks self.new) (walk self.new) }
         ensures held { Held self.new 0 }
         ensures grows { Ext (walk self.old) (walk self.new) }
         ensures pays { length (marks self.new) + common_rows (walk self.old) ≤ length (marks self.old) + common_rows (walk self.new) }
@@ -162,7 +162,7 @@ impl Algorithm {
         requires inside { row < length (walk self.old).rows }
         requires held { Held self.old 0 }
         requires young { generation ≤ common_rows (walk self.old) }
-        ensures is { Spread (meaning source.now) generation (parents_at self.old row) (marks self.old) (walk self.old) result (marks self.new) (walk self.new) }
+        ensures is { Spread (S.meaning source.now) generation (parents_at self.old row) (marks self.old) (walk self.old) result (marks self.new) (walk self.new) }
         ensures held { Held self.new 0 }
         ensures grows { Ext (walk self.old) (walk self.new) }
         ensures pays { length (marks self.new) + common_rows (walk self.old) ≤ length (marks self.old) + common_rows (walk self.new) }
@@ -185,7 +185,7 @@ impl Algorithm {
         requires inside { step.row < length (walk self.old).rows }
         requires held { Held self.old 0 }
         requires young { step.generation ≤ common_rows (walk self.old) }
-        ensures is { Visited (meaning source.now) (all ancestors) step (marks self.old) (walk self.old) result (marks self.new) (walk self.new) }
+        ensures is { Visited (S.meaning source.now) (all ancestors) step (marks self.old) (walk self.old) result (marks self.new) (walk self.new) }
         ensures held { Held self.new 0 }
         ensures grows { Ext (walk self.old) (walk self.new) }
         ensures pays { length (marks self.new) + common_rows (walk self.old) ≤ length (marks self.old) + common_rows (walk self.new) }
@@ -203,7 +203,7 @@ impl Algorithm {
     // Draws from the marking queue until it is empty.
     fn spread<S: Source>(&mut self, source: &S, ancestors: Ancestors) -> Result<(), Denial>
         requires held { Held self.old 1 }
-        ensures is { (g : ℕ) → Marking (meaning source.now) (all ancestors) g [] (marks self.old) (walk self.old) (ended result (walk self.new)) }
+        ensures is { (g : ℕ) → Marking (S.meaning source.now) (all ancestors) g [] (marks self.old) (walk self.old) (ended result (walk self.new)) }
         ensures grows { Ext (walk self.old) (walk self.new) }
     {
         while let Some(step) = self.state.dequeue_mark() {
@@ -231,7 +231,7 @@ impl Algorithm {
         mode: Mark,
         ancestors: Ancestors,
     ) -> Result<(), Denial>
-        ensures is { Marks-so (meaning source.now) (itself mode) (all ancestors) id (walk self.old) (ended result (walk self.new)) }
+        ensures is { Marks-so (S.meaning source.now) (itself mode) (all ancestors) id (walk self.old) (ended result (walk self.new)) }
         ensures grows { Ext (walk self.old) (walk self.new) }
     {
         let Some(row) = self.lookup(source, id)? else {

@@ -33,12 +33,12 @@ module _ {Y : Type 0} (go : ℕ → List ℕ → ℕ → Y) (stop cut : ℕ → 
     pub start : Sofar all from
     start = record { sums = refl; turns = length all; enough = omega arith; gives = refl }
 
-    stop-by : (n : ℕ) (rest : List ℕ) (place : ℕ) → length rest ≡ 0 → go n rest place ≡ stop place
-    stop-by zero rest place e = zero_is rest place
-    stop-by (suc n) rest place e = at_stop n rest place (omega arith) e
+    stop_by : (n : ℕ) (rest : List ℕ) (place : ℕ) → length rest ≡ 0 → go n rest place ≡ stop place
+    stop_by zero rest place e = zero_is rest place
+    stop_by (suc n) rest place e = at_stop n rest place (omega arith) e
 
     pub ends : (rest : List ℕ) (place : ℕ) → Sofar rest place → length rest ≡ 0 → stop place ≡ go (length all) all from
-    ends rest place s e = sym (stop-by s.turns rest place e) ∙ s.gives
+    ends rest place s e = sym (stop_by s.turns rest place e) ∙ s.gives
 
     cut_by : (n : ℕ) (rest : List ℕ) (place : ℕ) → length rest ≤ n → 0 < length rest → length rest < 3 + long rest → go n rest place ≡ cut place
     cut_by zero rest place le some short = elim (let f : ⊥ = omega arith in f) [ ]
@@ -47,19 +47,19 @@ module _ {Y : Type 0} (go : ℕ → List ℕ → ℕ → Y) (stop cut : ℕ → 
     pub cuts : (rest : List ℕ) (place : ℕ) → Sofar rest place → 0 < length rest → length rest < 3 + long rest → cut place ≡ go (length all) all from
     cuts rest place s some short = sym (cut_by s.turns rest place s.enough some short) ∙ s.gives
 
-    field-by : (n : ℕ) (rest : List ℕ) (place : ℕ) → length rest ≤ n → 3 + long rest ≤ length rest → (m : ℕ) × (length rest ≤ suc m) × (go n rest place ≡ one go m rest place)
-    field-by zero rest place le fits = elim (let f : ⊥ = omega arith in f) [ ]
-    field-by (suc n) rest place le fits = (n, le, at_field n rest place fits)
+    field_by : (n : ℕ) (rest : List ℕ) (place : ℕ) → length rest ≤ n → 3 + long rest ≤ length rest → (m : ℕ) × (length rest ≤ suc m) × (go n rest place ≡ one go m rest place)
+    field_by zero rest place le fits = elim (let f : ⊥ = omega arith in f) [ ]
+    field_by (suc n) rest place le fits = (n, le, at_field n rest place fits)
 
     -- the field is the last that is read: x is what it gives
     pub last : (rest : List ℕ) (place : ℕ) (x : Y) → Sofar rest place → 3 + long rest ≤ length rest → ((m : ℕ) → one go m rest place ≡ x) → x ≡ go (length all) all from
-    last rest place x s fits is = let t = field-by s.turns rest place s.enough fits in sym (sym s.gives ∙ t.2 ∙ is t.0)
+    last rest place x s fits is = let t = field_by s.turns rest place s.enough fits in sym (sym s.gives ∙ t.2 ∙ is t.0)
 
     -- one field more
     pub more : (rest body tail : List ℕ) (place tag : ℕ) → Sofar rest place → Field rest tag body tail
         → ((m : ℕ) → one go m rest place ≡ go m (behind_field rest) (place + (3 + long rest))) → Sofar tail (place + (3 + length body))
     more rest body tail place tag s f is =
-        let t = field-by s.turns rest place s.enough f.within in
+        let t = field_by s.turns rest place s.enough f.within in
         record {
           sums = omega (arith, s.sums, f.left, f.held);
           turns = t.0;

@@ -197,13 +197,13 @@ push_ext : (s : Walk) (k : ℕ) (M : Flags) → k < length s.rows → (join M (f
     → ((flags_at s k).common ≡ true → (join M (flags_at s k)).common ≡ true) → ((flags_at s k).popped ≡ true → (join M (flags_at s k)).popped ≡ true)
     → (meets M (flags_at s k) ≡ false → (flags_at s k).seen ≡ false) → Ext s (entered M s k)
 push_ext s k M l se co po un = cond_both (meets M (flags_at s k)) _ _ (λ t. Ext s t)
-    (λ e. change_ext s k (join M (flags_at s k)) s.queue s.count l (λ h. se) co po (omega (arith, ap bit se, bit-one (flags_at s k).seen)))
+    (λ e. change_ext s k (join M (flags_at s k)) s.queue s.count l (λ h. se) co po (omega (arith, ap bit se, bit_one (flags_at s k).seen)))
     (λ e. change_ext s k (join M (flags_at s k)) (place s.rows k s.queue) (s.count + cond (join M (flags_at s k)).common 0 1) l (λ h. se) co po
     (omega (arith, ap bit se, ap bit (un e), length_enter {V = ℕ} (record { date = (row s k).date; value = k }) s.queue)))
   where
-    bit-one : (b : Bool) → bit b ≤ 1
-    bit-one true = omega arith
-    bit-one false = omega arith
+    bit_one : (b : Bool) → bit b ≤ 1
+    bit_one true = omega arith
+    bit_one false = omega arith
 
 pub admit_ext : (s : Walk) (k mask : ℕ) → k < length s.rows → Admits mask (flags_at s k) → Ext s (entered (unpack mask) s k)
 admit_ext s k mask l (inl e) = subst (λ (x : ℕ). Ext s (entered (unpack x) s k)) (sym e) (push_ext s k SEEN l refl (λ h. h) (λ h. h) (go (flags_at s k).seen))

@@ -76,20 +76,20 @@ put_good W s k r q c G h sa t oc fi pay co re an pp = record {
   cov = each_put s k r q c (λ j y. y.flags.common ≡ true → W.Cov y.id) h (λ e. subst W.Cov (sym sa.id) (co e)) (λ j ne. G.cov j);
   ref = each_put s k r q c (λ j y. y.flags.cref ≡ true → W.Ref y.id) h (λ e. subst W.Ref (sym sa.id) (re e)) (λ j ne. G.ref j);
   ans = each_put s k r q c (λ j y. y.flags.popped ≡ true → (y.flags.common ≡ true) ⊎ W.Ans j) h an (λ j ne. G.ans j);
-  from = λ R j l. each_put s k r q c (λ i y. i < length s.rows → W.src y.id ≡ commit y.date y.parents) h (from-k R) (λ i ne. G.from R i) j (in-old l);
-  uniq = λ i j li lj. each_put s k r q c (λ m y. m < length s.rows → y.id ≡ (row (put s k r q c) j).id → m ≡ j) h (λ l e. other j lj k l (sym sa.id ∙ e)) (λ m ne. other j lj m) i (in-old li);
+  from = λ R j l. each_put s k r q c (λ i y. i < length s.rows → W.src y.id ≡ commit y.date y.parents) h (from_k R) (λ i ne. G.from R i) j (in_old l);
+  uniq = λ i j li lj. each_put s k r q c (λ m y. m < length s.rows → y.id ≡ (row (put s k r q c) j).id → m ≡ j) h (λ l e. other j lj k l (sym sa.id ∙ e)) (λ m ne. other j lj m) i (in_old li);
   room = omega (arith, G.room, length-set s.rows k r);
   short = omega (arith, G.short, pay, sum_by-set (λ (y : Row). bit (has_seen y)) s.rows k r no_row h);
 }
   where
-    from-k : W.Real → k < length s.rows → W.src r.id ≡ commit r.date r.parents
-    from-k R l = ap W.src sa.id ∙ G.from R k l ∙ ap (λ (d : ℤ). commit d (row s k).parents) (sym sa.date) ∙ ap (λ (ps : List ObjectId). commit r.date ps) (sym sa.parents)
+    from_k : W.Real → k < length s.rows → W.src r.id ≡ commit r.date r.parents
+    from_k R l = ap W.src sa.id ∙ G.from R k l ∙ ap (λ (d : ℤ). commit d (row s k).parents) (sym sa.date) ∙ ap (λ (ps : List ObjectId). commit r.date ps) (sym sa.parents)
 
-    in-old : {j : ℕ} → j < length (put s k r q c).rows → j < length s.rows
-    in-old {j} l = subst (λ (n : ℕ). j < n) (length-set s.rows k r) l
+    in_old : {j : ℕ} → j < length (put s k r q c).rows → j < length s.rows
+    in_old {j} l = subst (λ (n : ℕ). j < n) (length-set s.rows k r) l
 
     other : (j : ℕ) → j < length (put s k r q c).rows → (m : ℕ) → m < length s.rows → (row s m).id ≡ (row (put s k r q c) j).id → m ≡ j
-    other j lj m lm = each_put s k r q c (λ i y. i < length s.rows → (row s m).id ≡ y.id → m ≡ i) h (λ l e. G.uniq m k lm l (e ∙ sa.id)) (λ i ne l e. G.uniq m i lm l e) j (in-old lj)
+    other j lj m lm = each_put s k r q c (λ i y. i < length s.rows → (row s m).id ≡ y.id → m ≡ i) h (λ l e. G.uniq m k lm l (e ∙ sa.id)) (λ i ne l e. G.uniq m i lm l e) j (in_old lj)
 
 pub same_flags : (r : Row) (f : Flags) → Same r (reflag r f)
 same_flags r f = record { id = refl; date = refl; parents = refl }

@@ -188,11 +188,11 @@ module _ (src : Source) (P : ℕ → Type 0) (R : Type 0) where
   note_low b s k H l =
       let r = noted_good W b s k H.good l in
       let o = opens_put s k (reflag (row s k) (join (remarked b) (flags_at s k))) s.queue s.count l in
-      (record { good = r.0; low = omega (arith, H.low, o, ap bit (open-remarked b (flags_at s k))); high = omega (arith, H.high, r.1.seens) }, r.1)
+      (record { good = r.0; low = omega (arith, H.low, o, ap bit (open_remarked b (flags_at s k))); high = omega (arith, H.high, r.1.seens) }, r.1)
     where
-      open-remarked : (b : Remark) (f : Flags) → open_flags (join (remarked b) f) ≡ open_flags f
-      open-remarked remark.Complete f = refl
-      open-remarked remark.Alternate f = refl
+      open_remarked : (b : Remark) (f : Flags) → open_flags (join (remarked b) f) ≡ open_flags f
+      open_remarked remark.Complete f = refl
+      open_remarked remark.Alternate f = refl
 
   -- a row is drawn
   pub record Took (s : Walk) (k : ℕ) (q : Waits) : Type 0 where

@@ -125,14 +125,14 @@ entered_seen W s k G l = cond_both (meets SEEN (flags_at s k)) _ _ (λ t. Good W
 pub entered_ref : (W : World) (s : Walk) (k : ℕ) → Good W s → k < length s.rows → (flags_at s k).seen ≡ false → W.Ref (row s k).id
     → Good W (entered COMMON_REF_AND_SEEN s k) × Ext s (entered COMMON_REF_AND_SEEN s k) × ((flags_at (entered COMMON_REF_AND_SEEN s k) k).seen ≡ true)
 entered_ref W s k G l un rf = cond_both (meets COMMON_REF_AND_SEEN (flags_at s k)) _ _ (λ t. Good W t × Ext s t × ((flags_at t k).seen ≡ true))
-    (λ e. absurd (not-both (flags_at s k).seen (flags_at s k).cref un (G.fine k).ref_seen e))
+    (λ e. absurd (not_both (flags_at s k).seen (flags_at s k).cref un (G.fine k).ref_seen e))
     (λ e. let g = enter_good W s k (join COMMON_REF_AND_SEEN (flags_at s k)) (s.count + cond (join COMMON_REF_AND_SEEN (flags_at s k)).common 0 1) (λ x. refl) G l un refl refl (λ h. h) (G.cov k) (λ h. rf) in
     (g.0, g.1, ap (λ (r : Row). r.flags.seen) (row_same s k _ [] 0 l)))
   where
-    not-both : (a b : Bool) → a ≡ false → (b ≡ true → a ≡ true) → (a || (b || false)) ≡ true → ⊥
-    not-both true b x y z = true≢false x
-    not-both false true x y z = false≢true (y refl)
-    not-both false false x y z = false≢true z
+    not_both : (a b : Bool) → a ≡ false → (b ≡ true → a ≡ true) → (a || (b || false)) ≡ true → ⊥
+    not_both true b x y z = true≢false x
+    not_both false true x y z = false≢true (y refl)
+    not_both false false x y z = false≢true z
 
 -- push with COMMON and SEEN, of a row without SEEN
 pub entered_both : (W : World) (s : Walk) (k : ℕ) → Good W s → k < length s.rows → (flags_at s k).seen ≡ false → W.Cov (row s k).id

@@ -266,12 +266,12 @@ pass_cov W R s k q G l p i b hp =
     ⊎_elim (λ c. W.down (row s k).id p (G.cov k c) pa hp) (λ r. W.ref_down (row s k).id p (G.ref k r) pa hp) (or_cases (flags_at s k).common (flags_at s k).cref b)
 
 commit_same : (src : Source) (i : ObjectId) (d e : ℤ) (ps rs : List ObjectId) → src i ≡ commit d ps → src i ≡ commit e rs → ps ≡ rs
-commit_same src i d e ps rs x y = ap of-commit (sym x ∙ y)
+commit_same src i d e ps rs x y = ap of_commit (sym x ∙ y)
   where
-    of-commit : Meaning → List ObjectId
-    of-commit absent = []
-    of-commit (failing z) = []
-    of-commit (commit z zs) = zs
+    of_commit : Meaning → List ObjectId
+    of_commit absent = []
+    of_commit (failing z) = []
+    of_commit (commit z zs) = zs
 
 pub drawn_ext : (s : Walk) (k : Entry ℕ) (q : Waits) → s.queue ≡ k ∷ q → Ext s (drawn s q)
 unfolding seen_rows common_rows

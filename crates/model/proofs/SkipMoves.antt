@@ -94,12 +94,12 @@ pub added_there : (src : Source) (mask : ℕ) (i : ObjectId) (s t : Walk) → Ad
 added_there src mask i s t ad (steps.AddUnseen.skips h) = seen_there src s i h
 added_there src mask i s t ad (steps.AddUnseen.pushes h (steps.Add.passes (lacks e c))) = λ k u. go k u
   where
-    no-commit : (m : Meaning) (d : ℤ) (ps : List ObjectId) → m ≡ absent → m ≡ commit d ps → ⊥
-    no-commit m d ps x y = let z : ◌≡◌ {A = ℕ} 0 1 = cc in omega arith
+    no_commit : (m : Meaning) (d : ℤ) (ps : List ObjectId) → m ≡ absent → m ≡ commit d ps → ⊥
+    no_commit m d ps x y = let z : ◌≡◌ {A = ℕ} 0 1 = cc in omega arith
 
     go : (k : ℕ) (u : Walk) → Lookup src s i (found k u) → (flags_at u k).seen ≡ true
     go k u (held _ f) = absurd (let z : ◌≡◌ {A = ℕ} 0 1 = cc in omega arith)
-    go k u (adds d ps f g x y) = absurd (no-commit (src i) d ps c g)
+    go k u (adds d ps f g x y) = absurd (no_commit (src i) d ps c g)
 added_there src mask i s t ad (steps.AddUnseen.pushes h (steps.Add.enters {k = k} {s' = u} l)) =
     seen_there src (queued (unpack mask) u k) i (ap (sees_at (queued (unpack mask) u k)) (find_set i u.rows k (reflag (row u k) (join (unpack mask) (flags_at u k))) refl ∙ e)
     ∙ ap (λ (r : Row). r.flags.seen) (row_same u k _ [] 0 (find_some i u.rows k e).0) ∙ (plain_of mask ad).seen (flags_at u k))
@@ -205,11 +205,11 @@ module _ (src : Source) (f : Flags) (o l : ℕ) (ps : List ObjectId) (s : Walk) 
   hand_stop pushed n d u v b lt i h = λ r c. (pushed || false, i r c false (no b v) (subst (λ (z : List ObjectId). Hand src r z u false (no b v)) (sym (drop_more ps n d lt)) (steps.Hand.stuck (h r c))))
 
   pub hand_end : (pushed : Bool) (rest : List ObjectId) (u : Walk) → rest ≡ [] → Handing src f o l ps s pushed rest u → Handed src f o l ps s (Ok pushed) u
-  hand_end pushed rest u e i = λ r c. subst (λ (y : Bool). Hand src r ps s y (ok u)) (or-none pushed) (i r c false (ok u) (subst (λ (z : List ObjectId). Hand src r z u false (ok u)) (sym e) steps.Hand.over))
+  hand_end pushed rest u e i = λ r c. subst (λ (y : Bool). Hand src r ps s y (ok u)) (or_none pushed) (i r c false (ok u) (subst (λ (z : List ObjectId). Hand src r z u false (ok u)) (sym e) steps.Hand.over))
     where
-      or-none : (a : Bool) → (a || false) ≡ a
-      or-none true = refl
-      or-none false = refl
+      or_none : (a : Bool) → (a || false) ≡ a
+      or_none true = refl
+      or_none false = refl
 
 -- the turns of a next
 module _ (src : Source) (s t : Walk) (k : ℕ) (f : Flags) (o l : ℕ) (T : Took s k f o l t) where

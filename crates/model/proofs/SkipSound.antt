@@ -107,10 +107,10 @@ next_sound src (suc n) s o x = go s.queue refl (λ t. next_sound src n t o)
     go [] e ih = as_some (NextOf src s) (record { gave = NoneLeft; left = s }) o (rw (e, next_of) at x) (Skipping.Next.empty e)
     go (x₀ ∷ q) e ih = by_bool (eqb s.count 0) (NextOf src s o)
         (λ z. as_some (NextOf src s) (record { gave = NoneLeft; left = drawn s q }) o (rw z at (rw (e, next_of) at x)) (Skipping.Next.spent e (eqb-true s.count 0 z)))
-        (λ z. passed (some-count z) (hand_of src n (row s x₀.value) (row s x₀.value).parents (taken s x₀.value q)) refl (rw z at (rw (e, next_of) at x)))
+        (λ z. passed (some_count z) (hand_of src n (row s x₀.value) (row s x₀.value).parents (taken s x₀.value q)) refl (rw z at (rw (e, next_of) at x)))
       where
-        some-count : eqb s.count 0 ≡ false → 0 < s.count
-        some-count z = let y = eqb-false s.count 0 z in omega (arith, y)
+        some_count : eqb s.count 0 ≡ false → 0 < s.count
+        some_count z = let y = eqb-false s.count 0 z in omega (arith, y)
 
         last : Bool → Walk → Option Outcome
         last b t = elim (offers (row s x₀.value) b) [ true ↦ some (record { gave = Have x₀.value; left = t }) | false ↦ next_of src n t ]

@@ -123,10 +123,10 @@ next_sound src (suc n) s o x = go s.queue refl (λ t. next_sound src n t o)
     go [] e ih = as_some (NextOf src s) (record { gave = NoneLeft; left = s }) o (rw (e, next_of) at x) (Consecutive.Next.empty e)
     go (z₀ ∷ q) e ih = by_bool (eqb s.count 0) (Next src s o.gave o.left)
         (λ z. as_some (NextOf src s) (record { gave = NoneLeft; left = drawn s q }) o (rw z at (rw (e, next_of) at x)) (Consecutive.Next.spent e (eqb-true s.count 0 z)))
-        (λ z. passed (some-count z) (pass_of src (passes_both (flags_at s z₀.value)) n (row s z₀.value).parents (taken s z₀.value q)) refl (rw z at (rw (e, next_of) at x)))
+        (λ z. passed (some_count z) (pass_of src (passes_both (flags_at s z₀.value)) n (row s z₀.value).parents (taken s z₀.value q)) refl (rw z at (rw (e, next_of) at x)))
       where
-        some-count : eqb s.count 0 ≡ false → 0 < s.count
-        some-count z = let y = eqb-false s.count 0 z in omega (arith, y)
+        some_count : eqb s.count 0 ≡ false → 0 < s.count
+        some_count z = let y = eqb-false s.count 0 z in omega (arith, y)
 
         passed : 0 < s.count → (r : Option Res) → pass_of src (passes_both (flags_at s z₀.value)) n (row s z₀.value).parents (taken s z₀.value q) ≡ r
             → ends r (λ v. elim (flags_at s z₀.value).common [ true ↦ next_of src n v | false ↦ some (record { gave = Have z₀.value; left = v }) ]) ≡ some o → Next src s o.gave o.left
@@ -151,14 +151,14 @@ ran_sound src n s (KnownCommon i) o x = by_bool (sees s i) (Ran src s (KnownComm
     (λ h. as_some (RanOf src s (KnownCommon i)) (record { gave = Done; left = s }) o (rw (h, ran_of) at x) (Consecutive.Ran.known_seen h))
     (λ h. go h (push_of src COMMON_REF_AND_SEEN i s) (push_sound src COMMON_REF_AND_SEEN i s) (rw (h, ran_of) at x))
   where
-    then-mark : sees s i ≡ false → (t : Walk) → Push src COMMON_REF_AND_SEEN i s (ok t) → (r : Option Res) → mark_of src false false n i t ≡ r
+    then_mark : sees s i ≡ false → (t : Walk) → Push src COMMON_REF_AND_SEEN i s (ok t) → (r : Option Res) → mark_of src false false n i t ≡ r
         → ends r (λ u. some (record { gave = Done; left = u })) ≡ some o → Ran src s (KnownCommon i) o.gave o.left
-    then-mark h t p none e y = absurd (none-ne-some o y)
-    then-mark h t p (some (ok u)) e y = as_some (RanOf src s (KnownCommon i)) (record { gave = Done; left = u }) o y (Consecutive.Ran.known_ok h p (mark_sound src false false n i t (ok u) e))
-    then-mark h t p (some (no d u)) e y = as_some (RanOf src s (KnownCommon i)) (record { gave = Denied d; left = u }) o y (Consecutive.Ran.known_halt h p (mark_sound src false false n i t (no d u) e))
+    then_mark h t p none e y = absurd (none-ne-some o y)
+    then_mark h t p (some (ok u)) e y = as_some (RanOf src s (KnownCommon i)) (record { gave = Done; left = u }) o y (Consecutive.Ran.known_ok h p (mark_sound src false false n i t (ok u) e))
+    then_mark h t p (some (no d u)) e y = as_some (RanOf src s (KnownCommon i)) (record { gave = Denied d; left = u }) o y (Consecutive.Ran.known_halt h p (mark_sound src false false n i t (no d u) e))
 
     go : sees s i ≡ false → (r : Res) → Push src COMMON_REF_AND_SEEN i s r → ends (some r) (λ t. ends (mark_of src false false n i t) (λ u. some (record { gave = Done; left = u }))) ≡ some o → Ran src s (KnownCommon i) o.gave o.left
-    go h (ok t) p y = then-mark h t p (mark_of src false false n i t) refl y
+    go h (ok t) p y = then_mark h t p (mark_of src false false n i t) refl y
     go h (no d t) p y = as_some (RanOf src s (KnownCommon i)) (record { gave = Denied d; left = t }) o y (Consecutive.Ran.known_no h p)
 ran_sound src n s (InCommonWithRemote i) o x = go (mark_of src true false n i s) refl x
   where

@@ -54,17 +54,17 @@ module _ (p : ObjectId) (s t : State) (k : ℕ) (e : find p (view s).rows ≡ so
     at : marks u ≡ enter (record { date = (row (view s) k).date; value = at_row k }) (marks s)
     at = marks_gain (view s) (view t) k (marks s) (marks u) l is (mu ∙ ap {B = Marks} (λ (m : Marks). place_mark (view t).rows (at_row k) m) q.aside.marks)
 
-    now-is : view u ≡ shared (view s) k
-    now-is = eu ∙ is
+    now_is : view u ≡ shared (view s) k
+    now_is = eu ∙ is
 
-    pub seen-is : SpreadOne p (marks s) (view s) (marks u) (view u)
-    seen-is = one_gains p (marks s) (marks u) (view s) (view u) k e un se now-is at
+    pub seen_is : SpreadOne p (marks s) (view s) (marks u) (view u)
+    seen_is = one_gains p (marks s) (marks u) (view s) (view u) k e un se now_is at
 
-    pub seen-keeps : SkipHeld (view u) (marks u) (mark_numbered u)
-    seen-keeps = gains_held (view s) (view u) k (mark_numbered s) (marks s) H l un now-is (mark_numbered u) (marks u) se at (omega (arith, nu, q.aside.mark_numbered))
+    pub seen_keeps : SkipHeld (view u) (marks u) (mark_numbered u)
+    seen_keeps = gains_held (view s) (view u) k (mark_numbered s) (marks s) H l un now_is (mark_numbered u) (marks u) se at (omega (arith, nu, q.aside.mark_numbered))
 
     pub seen_ext : Ext (view s) (view u)
-    seen_ext = shared_grows (view s) (view u) k l now-is
+    seen_ext = shared_grows (view s) (view u) k l now_is
 
-    pub seen-pays : length (marks u) + common_rows (view s) ≤ length (marks s) + common_rows (view u)
-    seen-pays = gains_pays (view s) (view u) k (mark_numbered s) (marks s) H l un now-is (marks u) (row (view s) k).date at
+    pub seen_pays : length (marks u) + common_rows (view s) ≤ length (marks s) + common_rows (view u)
+    seen_pays = gains_pays (view s) (view u) k (mark_numbered s) (marks s) H l un now_is (marks u) (row (view s) k).date at

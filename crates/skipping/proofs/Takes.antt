@@ -29,14 +29,14 @@ module _ (s t : State) (k : ℕ) (h : Drew (view s) (Some k) (view t)) (qt : Qui
     none : (view s).count ≡ 0
     none = sym same_count ∙ eqb-true _ _ (sym z)
 
-    lost-fits : Fits SkipFit s → Fits SkipFit t
-    lost-fits F = fits_quiet SkipFit s t F qt (λ n p m x. subst (λ (w : Walk). SkipFit w n p m) (sym h.4) (spent_fit (view s) n p m h.0 h.1 x h.2 none))
+    lost_fits : Fits SkipFit s → Fits SkipFit t
+    lost_fits F = fits_quiet SkipFit s t F qt (λ n p m x. subst (λ (w : Walk). SkipFit w n p m) (sym h.4) (spent_fit (view s) n p m h.0 h.1 x h.2 none))
 
-    lost-is : (src : Source) → Next src (view s) NoneLeft (view t)
-    lost-is src = subst (λ (w : Walk). Next src (view s) NoneLeft w) (sym h.4) (steps.Next.spent h.2 none)
+    lost_is : (src : Source) → Next src (view s) NoneLeft (view t)
+    lost_is src = subst (λ (w : Walk). Next src (view s) NoneLeft w) (sym h.4) (steps.Next.spent h.2 none)
 
-    lost-ext : Ext (view s) (view t)
-    lost-ext = subst (λ (w : Walk). Ext (view s) w) (sym h.4) (drawn_ext (view s) h.0 h.1 h.2)
+    lost_ext : Ext (view s) (view t)
+    lost_ext = subst (λ (w : Walk). Ext (view s) w) (sym h.4) (drawn_ext (view s) h.0 h.1 h.2)
 
   -- it is not
   module _ (z : false ≡ eqb (view t).count 0) (m : Metadata) (hm : HasMetadata (row (view t) k) m) (u : State) (qu : Quiet t u)
@@ -98,17 +98,17 @@ module _ (s t : State) (qt : Quiet s t) where
   pub none_fits : DrewUnspent (view s) None (view t) → Fits SkipFit s → Fits SkipFit t
   none_fits (inl (z, h)) F = empty_fits h F
   none_fits (inr (z, e, (None, h))) F = empty_fits h F
-  none_fits (inr (z, e, (Some k, h))) F = lost-fits s t k h qt z F
+  none_fits (inr (z, e, (Some k, h))) F = lost_fits s t k h qt z F
 
   pub none_is : DrewUnspent (view s) None (view t) → (src : Source) → Next src (view s) NoneLeft (view t)
   none_is (inl (z, h)) src = empty_is h src
   none_is (inr (z, e, (None, h))) src = empty_is h src
-  none_is (inr (z, e, (Some k, h))) src = lost-is s t k h qt z src
+  none_is (inr (z, e, (Some k, h))) src = lost_is s t k h qt z src
 
   pub none_ext : DrewUnspent (view s) None (view t) → Ext (view s) (view t)
   none_ext (inl (z, h)) = empty_ext h
   none_ext (inr (z, e, (None, h))) = empty_ext h
-  none_ext (inr (z, e, (Some k, h))) = lost-ext s t k h qt z
+  none_ext (inr (z, e, (Some k, h))) = lost_ext s t k h qt z
 
 -- a row was drawn
 pub some_of : (s t : Walk) (k : ℕ) → DrewUnspent s (Some k) t → Drew s (Some k) t × (false ≡ eqb t.count 0)

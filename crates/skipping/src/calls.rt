@@ -36,7 +36,7 @@ impl Algorithm {
         id: ObjectId,
         remark: Remark,
     ) -> Result<(), Denial>
-        ensures { (n : Kind) → Called (does n (meaning source.now)) (view self.old.state) (Noting id remark) (dones result) (view self.new.state) }
+        ensures { (n : Kind) → Called (does n (S.meaning source.now)) (view self.old.state) (Noting id remark) (dones result) (view self.new.state) }
     {
         self.state.note(source, id, remark)
     }

@@ -113,7 +113,7 @@ impl Algorithm {
         entry: Metadata,
         id: ObjectId,
     ) -> Result<bool, Denial>
-        ensures is { Pushed (meaning source.now) (unpack entry.flags.bits) entry.original_ttl entry.ttl id (walk self.old) result (walk self.new) }
+        ensures is { Pushed (S.meaning source.now) (unpack entry.flags.bits) entry.original_ttl entry.ttl id (walk self.old) result (walk self.new) }
         ensures grows { Ext (walk self.old) (walk self.new) }
     {
         if self.has_popped(id) {
@@ -137,7 +137,7 @@ impl Algorithm {
         metadata: Metadata,
     ) -> Result<bool, Denial>
         requires { row < length (walk self.old).rows }
-        ensures is { Handed (meaning source.now) (unpack metadata.flags.bits) metadata.original_ttl metadata.ttl (parents_at self.old row) (walk self.old) result (walk self.new) }
+        ensures is { Handed (S.meaning source.now) (unpack metadata.flags.bits) metadata.original_ttl metadata.ttl (parents_at self.old row) (walk self.old) result (walk self.new) }
         ensures grows { Ext (walk self.old) (walk self.new) }
     {
         let count = self.state.head(row).parents;
@@ -165,7 +165,7 @@ impl Algorithm {
 
     // Draws until it has something to offer.
     pub(crate) fn next<S: Source>(&mut self, source: &S) -> Result<Option<usize>, Denial>
-        ensures { Next (meaning source.now) (walk self.old) (haves result) (walk self.new) }
+        ensures { Next (S.meaning source.now) (walk self.old) (haves result) (walk self.new) }
     {
         loop {
             let Some(turn) = self.draw_row() else {

@@ -18,7 +18,7 @@ use source::{ObjectId, Source};
 impl Algorithm {
     // The row of an id, which comes in from the source where there is none yet.
     fn lookup<S: Source>(&mut self, source: &S, id: ObjectId) -> Result<Option<usize>, Denial>
-        ensures is { Looks (meaning source.now) (walk self.old) id (walk self.new) result }
+        ensures is { Looks (S.meaning source.now) (walk self.old) id (walk self.new) result }
         ensures quiet { Quiet self.old.state self.new.state }
     {
         self.state.lookup(source, id)
@@ -45,7 +45,7 @@ impl Algorithm {
     ) -> Result<(), Denial>
         requires adds { Adds mask.bits }
         requires unseen { sees (walk self.old) id ≡ false }
-        ensures is { Add (meaning source.now) (unpack mask.bits) id (walk self.old) (ended result (walk self.new)) }
+        ensures is { Add (S.meaning source.now) (unpack mask.bits) id (walk self.old) (ended result (walk self.new)) }
         ensures grows { Ext (walk self.old) (walk self.new) }
     {
         let Some(row) = self.lookup(source, id)? else {
@@ -58,7 +58,7 @@ impl Algorithm {
     // The same, unless the id has a row with SEEN.
     fn add_unseen<S: Source>(&mut self, source: &S, id: ObjectId, mask: Flags) -> Result<(), Denial>
         requires { Adds mask.bits }
-        ensures { AddsUnseen (meaning source.now) (unpack mask.bits) id (walk self.old) result (walk self.new) }
+        ensures { AddsUnseen (S.meaning source.now) (unpack mask.bits) id (walk self.old) result (walk self.new) }
     {
         if self.state.has_seen(id) {
             return Ok(());
@@ -68,7 +68,7 @@ impl Algorithm {
 
     // A commit of our own enters the queue: a tip, or a parent of a drawn commit.
     pub(crate) fn add_own<S: Source>(&mut self, source: &S, id: ObjectId) -> Result<(), Denial>
-        ensures { AddsUnseen (meaning source.now) seen_only id (walk self.old) result (walk self.new) }
+        ensures { AddsUnseen (S.meaning source.now) seen_only id (walk self.old) result (walk self.new) }
     {
         self.add_unseen(source, id, Flags::SEEN)
     }
@@ -79,7 +79,7 @@ impl Algorithm {
         source: &S,
         id: ObjectId,
     ) -> Result<(), Denial>
-        ensures { AddsUnseen (meaning source.now) advertised_and_seen id (walk self.old) result (walk self.new) }
+        ensures { AddsUnseen (S.meaning source.now) advertised_and_seen id (walk self.old) result (walk self.new) }
     {
         self.add_unseen(source, id, Flags::ADVERTISED_AND_SEEN)
     }
@@ -171,8 +171,8 @@ impl Algorithm {
 
     // Marks a commit and its ancestors as common. A row that it has must have SEEN.
     pub(crate) fn mark_common<S: Source>(&mut self, source: &S, id: ObjectId) -> Result<(), Denial>
-        requires { SeenIfThere (meaning source.now) (walk self.old) id }
-        ensures is { Mark (meaning source.now) id (walk self.old) (ended result (walk self.new)) }
+        requires { SeenIfThere (S.meaning source.now) (walk self.old) id }
+        ensures is { Mark (S.meaning source.now) id (walk self.old) (ended result (walk self.new)) }
         ensures grows { Ext (walk self.old) (walk self.new) }
     {
         let Some(row) = self.lookup(source, id)? else {

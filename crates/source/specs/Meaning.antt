@@ -1,5 +1,5 @@
 -- What a source says of an id.
-use Rattle.std.specs.Prelude.{ℕ, ◌+◌, min, List, [], ◌∷◌, length, ℤ, Some, None, Option}
+use Rattle.std.specs.Prelude.{ℕ, ◌+◌, min, List, [], length, ℤ, Some, None, Option}
 use Rattle.std.specs.List.{slice_get}
 use Rattle.source.specs.declared.ObjectId.{ObjectId}
 use Rattle.source.specs.declared.Cause.{Cause}

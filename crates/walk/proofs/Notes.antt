@@ -30,7 +30,7 @@ pub note_called : (n : Algorithm) (src : Source) (m m' : Model) (q : Waits) (c :
     → m' ≡ (noted src i (bit_of r) m).book → a ≡ (noted src i (bit_of r) m).answer → Called (does n src) (walk_of m q c) (Note i r) (dones a) (walk_of m' q c)
 note_called n src m m' q c i r a e f =
     subst (λ (x : Model). Called (does n src) s₀ (Note i r) (dones a) (walk_of x q c)) (sym e)
-    (subst (λ (x : Result (Unit {0}) Denial). Called (does n src) s₀ (Note i r) (dones x) (walk_of (noted src i (bit_of r) m).book q c)) (sym f) (by-stopped m.stopped refl))
+    (subst (λ (x : Result (Unit {0}) Denial). Called (does n src) s₀ (Note i r) (dones x) (walk_of (noted src i (bit_of r) m).book q c)) (sym f) (by_stopped m.stopped refl))
   where
     s₀ : Walk
     s₀ = walk_of m q c
@@ -46,6 +46,6 @@ note_called n src m m' q c i r a e f =
     chosen : Bool → Done
     chosen b = cond b (record { book = m; answer = Err denial.Stopped }) (marked (looked_up src i m).book (looked_up src i m).answer (bit_of r))
 
-    by-stopped : (b : Bool) → m.stopped ≡ b → Called (does n src) s₀ (Note i r) (dones (chosen b).answer) (walk_of (chosen b).book q c)
-    by-stopped true h = inl (h, refl, refl)
-    by-stopped false h = mark (looked_up src i m).book (looked_up src i m).answer (looks src m q c i) h
+    by_stopped : (b : Bool) → m.stopped ≡ b → Called (does n src) s₀ (Note i r) (dones (chosen b).answer) (walk_of (chosen b).book q c)
+    by_stopped true h = inl (h, refl, refl)
+    by_stopped false h = mark (looked_up src i m).book (looked_up src i m).answer (looks src m q c i) h

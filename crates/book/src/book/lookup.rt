@@ -12,8 +12,8 @@ impl Book {
     // Writes the commit's parents, in order, into the free links.
     fn copy_parents<S: Source>(&mut self, source: &S, id: ObjectId, count: usize)
         requires room { self.old.linked + count ≤ vec_len self.old.links }
-        requires whole { count ≡ length (parents_of (meaning source.now id)) }
-        ensures { Copied self.old self.new (parents_of (meaning source.now id)) count }
+        requires whole { count ≡ length (parents_of (S.meaning source.now id)) }
+        ensures { Copied self.old self.new (parents_of (S.meaning source.now id)) count }
     {
         let first = self.linked;
         for k in 0..count {
@@ -38,8 +38,8 @@ impl Book {
 
     // The row of an id, which comes in from the source where there is none yet.
     pub fn lookup<S: Source>(&mut self, source: &S, id: ObjectId) -> Result<Option<usize>, Denial>
-        ensures after { model self.new ≡ (looked_up (meaning source.now) id (model self.old)).book }
-        ensures value { result ≡ (looked_up (meaning source.now) id (model self.old)).answer }
+        ensures after { model self.new ≡ (looked_up (S.meaning source.now) id (model self.old)).book }
+        ensures value { result ≡ (looked_up (S.meaning source.now) id (model self.old)).answer }
     {
         if let Some(row) = self.find(id) {
             return Ok(Some(row));
@@ -71,8 +71,8 @@ impl Book {
         id: ObjectId,
         remark: Remark,
     ) -> Result<(), Denial>
-        ensures after { model self.new ≡ (noted (meaning source.now) id (bit_of remark) (model self.old)).book }
-        ensures value { result ≡ (noted (meaning source.now) id (bit_of remark) (model self.old)).answer }
+        ensures after { model self.new ≡ (noted (S.meaning source.now) id (bit_of remark) (model self.old)).book }
+        ensures value { result ≡ (noted (S.meaning source.now) id (bit_of remark) (model self.old)).answer }
     {
         if self.stopped {
             return Err(Denial::Stopped);

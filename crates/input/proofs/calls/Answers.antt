@@ -7,4 +7,4 @@ pub loop-call-preserved : goal.loop-call-preserved
 loop-call-preserved c =
     let tail = calls_of c.in-Some.tail.now in
     let had = vec_items c.loop-call.calls in
-    ap {B = List Call} (λ xs. xs ++ tail) c.in-ok-push.ensures.items ∙ append_assoc had (c.in-Some.call ∷ []) tail ∙ ap {B = List Call} (λ ys. had ++ ys) (sym c.in-Some.ensures.0) ∙ c.loop-call.invariant
+    ap {B = List Call} (λ xs. xs ++ tail) c.in_ok-push.ensures.items ∙ append_assoc had (c.in-Some.call ∷ []) tail ∙ ap {B = List Call} (λ ys. had ++ ys) (sym c.in-Some.ensures.0) ∙ c.loop-call.invariant

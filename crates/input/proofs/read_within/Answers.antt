@@ -12,11 +12,11 @@ loop-rest-init c = store_start _
 pub loop-rest-preserved : goal.loop-rest-preserved
 loop-rest-preserved c = store_more _ _ _ _ _ _ c.loop-rest.invariant c.in-Some.ensures c.if-tag-eq-NEGOTIATOR.false
 
-pub returns-then-is-empty : goal.returns-then-is-empty
-returns-then-is-empty c = store_ends _ _ _ c.loop-rest.invariant (true-eqb _ _ c.if-is-empty.ensures) ∙ short c.args.most c.args.bytes.now (omega arith)
+pub returns-then-is_empty : goal.returns-then-is_empty
+returns-then-is_empty c = store_ends _ _ _ c.loop-rest.invariant (true-eqb _ _ c.if-is_empty.ensures) ∙ short c.args.most c.args.bytes.now (omega arith)
 
-pub returns-in-default : goal.returns-in-default
-returns-in-default c = store_cuts _ _ _ c.loop-rest.invariant (omega (arith, false-eqb _ _ c.if-is-empty.ensures)) c.in-default.ensures ∙ short c.args.most c.args.bytes.now (omega arith)
+pub returns-in_default : goal.returns-in_default
+returns-in_default c = store_cuts _ _ _ c.loop-rest.invariant (omega (arith, false-eqb _ _ c.if-is_empty.ensures)) c.in_default.ensures ∙ short c.args.most c.args.bytes.now (omega arith)
 
 pub returns-then-tag-eq-NEGOTIATOR : goal.returns-then-tag-eq-NEGOTIATOR
 returns-then-tag-eq-NEGOTIATOR c =

@@ -26,7 +26,7 @@ impl State {
 
     // The row of an id, which comes in from the source where there is none yet.
     pub fn lookup<S: Source>(&mut self, source: &S, id: ObjectId) -> Result<Option<usize>, Denial>
-        ensures is { Looks (meaning source.now) (view self.old) id (view self.new) result }
+        ensures is { Looks (S.meaning source.now) (view self.old) id (view self.new) result }
         ensures quiet { Quiet self.old self.new }
     {
         self.book.lookup(source, id)
@@ -113,7 +113,7 @@ impl State {
         id: ObjectId,
         remark: Remark,
     ) -> Result<(), Denial>
-        ensures is { (n : Algorithm) → Called (does n (meaning source.now)) (view self.old) (calls.Note id remark) (dones result) (view self.new) }
+        ensures is { (n : Algorithm) → Called (does n (S.meaning source.now)) (view self.old) (calls.Note id remark) (dones result) (view self.new) }
         ensures quiet { Quiet self.old self.new }
     {
         self.book.note(source, id, remark)

@@ -7,16 +7,16 @@ use Rattle.walk.proofs.Keeps.{fits_le, fits_same, rooms_trans}
 use Rattle.consecutive.proofs.Spreads.{alone_is, alone_same, alone_held}
 use Rattle.consecutive.proofs.Algorithm.begin_marking.Goals as goal
 
-pub enqueue-mark-requires : goal.enqueue-mark-requires
-enqueue-mark-requires c =
+pub enqueue_mark-requires : goal.enqueue_mark-requires
+enqueue_mark-requires c =
     let w = c.args.self.now in
     let b : length (view w.state).rows ≤ mark_places w.state = fits_le Fit w.state _ _ w.fit (λ F. rows_marks (view w.state) _ _ _ F) in
-    let e = ap {B = ℕ} (λ (q : Marks). length q) c.clear-marks.ensures.is in
-    record { space = omega (arith, b, e, c.requires, c.clear-marks.ensures.rooms.mark_places); number = omega (arith, c.clear-marks.ensures.numbers.1) }
+    let e = ap {B = ℕ} (λ (q : Marks). length q) c.clear_marks.ensures.is in
+    record { space = omega (arith, b, e, c.requires, c.clear_marks.ensures.rooms.mark_places); number = omega (arith, c.clear_marks.ensures.numbers.1) }
 
-pub invariant-of-self : goal.invariant-of-self
-invariant-of-self c =
-    (fits_same Fit c.args.self.now.state c.enqueue-mark.new.self c.args.self.now.fit (rooms_trans _ _ _ c.clear-marks.ensures.rooms c.enqueue-mark.ensures.rooms) (c.enqueue-mark.ensures.same ∙ c.clear-marks.ensures.same) (c.enqueue-mark.ensures.numbers.0 ∙ c.clear-marks.ensures.numbers.0), tt)
+pub invariant_of-self : goal.invariant_of-self
+invariant_of-self c =
+    record { fit = fits_same Fit c.args.self.now.state c.enqueue_mark.new.self c.args.self.now.fit (rooms_trans _ _ _ c.clear_marks.ensures.rooms c.enqueue_mark.ensures.rooms) (c.enqueue_mark.ensures.same ∙ c.clear_marks.ensures.same) (c.enqueue_mark.ensures.numbers.0 ∙ c.clear_marks.ensures.numbers.0) }
 
 pub returns : goal.returns
-returns c = record { is = alone_is c.args.self.now.state c.clear-marks.new.self c.enqueue-mark.new.self c.args.row c.requires c.clear-marks.ensures.same c.clear-marks.ensures.is c.clear-marks.ensures.numbers.1 c.enqueue-mark.ensures.same c.enqueue-mark.ensures.is c.enqueue-mark.ensures.numbers.1; same = alone_same c.args.self.now.state c.clear-marks.new.self c.enqueue-mark.new.self c.args.row c.requires c.clear-marks.ensures.same c.clear-marks.ensures.is c.clear-marks.ensures.numbers.1 c.enqueue-mark.ensures.same c.enqueue-mark.ensures.is c.enqueue-mark.ensures.numbers.1; held = alone_held c.args.self.now.state c.clear-marks.new.self c.enqueue-mark.new.self c.args.row c.requires c.clear-marks.ensures.same c.clear-marks.ensures.is c.clear-marks.ensures.numbers.1 c.enqueue-mark.ensures.same c.enqueue-mark.ensures.is c.enqueue-mark.ensures.numbers.1 }
+returns c = record { is = alone_is c.args.self.now.state c.clear_marks.new.self c.enqueue_mark.new.self c.args.row c.requires c.clear_marks.ensures.same c.clear_marks.ensures.is c.clear_marks.ensures.numbers.1 c.enqueue_mark.ensures.same c.enqueue_mark.ensures.is c.enqueue_mark.ensures.numbers.1; same = alone_same c.args.self.now.state c.clear_marks.new.self c.enqueue_mark.new.self c.args.row c.requires c.clear_marks.ensures.same c.clear_marks.ensures.is c.clear_marks.ensures.numbers.1 c.enqueue_mark.ensures.same c.enqueue_mark.ensures.is c.enqueue_mark.ensures.numbers.1; held = alone_held c.args.self.now.state c.clear_marks.new.self c.enqueue_mark.new.self c.args.row c.requires c.clear_marks.ensures.same c.clear_marks.ensures.is c.clear_marks.ensures.numbers.1 c.enqueue_mark.ensures.same c.enqueue_mark.ensures.is c.enqueue_mark.ensures.numbers.1 }

@@ -4,5 +4,5 @@ use Rattle.walk.specs.View.{view}
 use Rattle.walk.proofs.Keeps.{fits_quiet}
 use Rattle.consecutive.proofs.Algorithm.lookup.Goals as goal
 
-pub invariant-of-self : goal.invariant-of-self
-invariant-of-self g c = (fits_quiet Fit c.args.self.now.state _ c.args.self.now.fit c.lookup.ensures.quiet (λ n p m F. looks_fit (g.S.Source.meaning c.args.source.now) (view c.args.self.now.state) c.args.id _ c.lookup.result n p m c.lookup.ensures.is F), tt)
+pub invariant_of-self : goal.invariant_of-self
+invariant_of-self g c = record { fit = fits_quiet Fit c.args.self.now.state _ c.args.self.now.fit c.lookup.ensures.quiet (λ n p m F. looks_fit (g.S.Source.meaning c.args.source.now) (view c.args.self.now.state) c.args.id _ c.lookup.result n p m c.lookup.ensures.is F) }

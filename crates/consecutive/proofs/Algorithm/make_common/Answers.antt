@@ -1,8 +1,8 @@
 use Rattle.consecutive.proofs.Admits.{common_low, common_fits}
 use Rattle.consecutive.proofs.Algorithm.make_common.Goals as goal
 
-pub lower-count-requires : goal.lower-count-requires
-lower-count-requires c = common_low c.args.self.now.state _ _ c.head.result.flags.bits _ c.args.self.now.fit c.requires.inside c.requires.lacks c.head.ensures.flags c.set-flags.ensures.quiet c.set-flags.ensures.is c.unpopped.ensures
+pub lower_count-requires : goal.lower_count-requires
+lower_count-requires c = common_low c.args.self.now.state _ _ c.head.result.flags.bits _ c.args.self.now.fit c.requires.inside c.requires.lacks c.head.ensures.flags c.set_flags.ensures.quiet c.set_flags.ensures.is c.unpopped.ensures
 
-pub invariant-of-self : goal.invariant-of-self
-invariant-of-self c = (common_fits c.args.self.now.state _ _ c.head.result.flags.bits _ c.args.self.now.fit c.requires.inside c.requires.lacks c.head.ensures.flags c.set-flags.ensures.quiet c.set-flags.ensures.is c.unpopped.ensures _ c.lower-count.ensures.quiet c.lower-count.ensures.is, tt)
+pub invariant_of-self : goal.invariant_of-self
+invariant_of-self c = record { fit = common_fits c.args.self.now.state _ _ c.head.result.flags.bits _ c.args.self.now.fit c.requires.inside c.requires.lacks c.head.ensures.flags c.set_flags.ensures.quiet c.set_flags.ensures.is c.unpopped.ensures _ c.lower_count.ensures.quiet c.lower_count.ensures.is }

@@ -14,21 +14,21 @@ use Rattle.consecutive.specs.Seen.{walk, parents_at}
 use Rattle.consecutive.proofs.Steps.{parent_then}
 use Rattle.consecutive.proofs.Algorithm.pass.Goals as goal
 
-pub returns-in-err-pass-one : goal.returns-in-err-pass-one
-returns-in-err-pass-one g c =
+pub returns-in_err-pass_one : goal.returns-in_err-pass_one
+returns-in_err-pass_one g c =
     let src = g.S.Source.meaning c.args.source.now in
     let w = c.args.self.now in
     let u = walk c.loop-n.self in
-    let v = walk c.pass-one.new.self in
+    let v = walk c.pass_one.new.self in
     let i = c.loop-n.invariant in
-    let d = c.in-err-pass-one.field-0.0 in
+    let d = c.in_err-pass_one.field-0.0 in
     let p = err_from_is_err_and c.from-residual.result c.from-residual.ensures.1 in
     let pe = parent_then (walk w) u c.args.row c.loop-n.n c.parent-parent.result i.0 c.requires.inside c.parent-parent.ensures in
-    let h = subst (λ (y : ObjectId). PassedOne src c.args.both y u (Err d) v) pe c.in-err-pass-one.ensures.is in
+    let h = subst (λ (y : ObjectId). PassedOne src c.args.both y u (Err d) v) pe c.in_err-pass_one.ensures.is in
     let m = i.1 (no d v) (pass_stop src c.args.both (parents_at w c.args.row) c.loop-n.n no_id u v d (omega (arith, c.loop-n-test.true, c.head-count.ensures.parents)) h) in
     record {
       is = subst (λ (r : Result (Unit {0}) Denial). Pass src c.args.both (parents_at w c.args.row) (walk w) (ended r v)) (sym (p.1 ∙ ap (λ (x : Denial). Err x) p.2)) m;
-      grows = ext_trans (walk w) u v i.0 c.pass-one.ensures.grows;
+      grows = ext_trans (walk w) u v i.0 c.pass_one.ensures.grows;
     }
 
 pub loop-n-preserved : goal.loop-n-preserved
@@ -36,11 +36,11 @@ loop-n-preserved g c =
     let src = g.S.Source.meaning c.args.source.now in
     let w = c.args.self.now in
     let u = walk c.loop-n.self in
-    let v = walk c.pass-one.new.self in
+    let v = walk c.pass_one.new.self in
     let i = c.loop-n.invariant in
     let pe = parent_then (walk w) u c.args.row c.loop-n.n c.parent-parent.result i.0 c.requires.inside c.parent-parent.ensures in
-    let h = subst (λ (y : ObjectId). PassedOne src c.args.both y u (Ok tt) v) pe c.in-ok-pass-one.ensures.is in (
-      ext_trans (walk w) u v i.0 c.pass-one.ensures.grows,
+    let h = subst (λ (y : ObjectId). PassedOne src c.args.both y u (Ok tt) v) pe c.in_ok-pass_one.ensures.is in (
+      ext_trans (walk w) u v i.0 c.pass_one.ensures.grows,
       (λ out m. i.1 out (pass_step src c.args.both (parents_at w c.args.row) c.loop-n.n no_id u v (omega (arith, c.loop-n-test.true, c.head-count.ensures.parents)) h out m)),
     )
 

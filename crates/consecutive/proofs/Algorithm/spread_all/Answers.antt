@@ -13,26 +13,26 @@ use Rattle.consecutive.specs.Seen.{walk, marks, parents_at}
 use Rattle.consecutive.proofs.Steps.{parent_then}
 use Rattle.consecutive.proofs.Algorithm.spread_all.Goals as goal
 
-pub spread-one-requires : goal.spread-one-requires
-spread-one-requires g c = let i = c.loop-n.invariant in record { held = i.1; young = omega (arith, c.requires.young, i.0.commons) }
+pub spread_one-requires : goal.spread_one-requires
+spread_one-requires g c = let i = c.loop-n.invariant in record { held = i.1; young = omega (arith, c.requires.young, i.0.commons) }
 
-pub returns-in-err-spread-one : goal.returns-in-err-spread-one
-returns-in-err-spread-one g c =
+pub returns-in_err-spread_one : goal.returns-in_err-spread_one
+returns-in_err-spread_one g c =
     let src = g.S.Source.meaning c.args.source.now in
     let w = c.args.self.now in
     let u = c.loop-n.self in
-    let v = c.spread-one.new.self in
+    let v = c.spread_one.new.self in
     let i = c.loop-n.invariant in
-    let d = c.in-err-spread-one.field-0.0 in
+    let d = c.in_err-spread_one.field-0.0 in
     let p = err_from_is_err_and c.from-residual.result c.from-residual.ensures.1 in
     let pe = parent_then (walk w) (walk u) c.args.row c.loop-n.n c.parent-parent.result i.0 c.requires.inside c.parent-parent.ensures in
-    let h = subst (λ (y : ObjectId). SpreadOne src c.args.generation y (marks u) (walk u) (Err d) (marks v) (walk v)) pe c.in-err-spread-one.ensures.is in
+    let h = subst (λ (y : ObjectId). SpreadOne src c.args.generation y (marks u) (walk u) (Err d) (marks v) (walk v)) pe c.in_err-spread_one.ensures.is in
     let m = λ (all : Bool). i.3 all (no d (walk v)) (spread_stop src c.args.generation (parents_at w c.args.row) c.loop-n.n no_id no_id (marks u) (marks v) (walk u) (walk v) d (omega (arith, c.loop-n-test.true, c.head-count.ensures.parents)) h all) in
     record {
       is = subst (λ (r : Result (Unit {0}) Denial). Spread src c.args.generation (parents_at w c.args.row) (marks w) (walk w) r (marks v) (walk v)) (sym (p.1 ∙ ap (λ (x : Denial). Err x) p.2)) m;
-      held = c.spread-one.ensures.held;
-      grows = ext_trans (walk w) (walk u) (walk v) i.0 c.spread-one.ensures.grows;
-      pays = omega (arith, i.2, c.spread-one.ensures.pays);
+      held = c.spread_one.ensures.held;
+      grows = ext_trans (walk w) (walk u) (walk v) i.0 c.spread_one.ensures.grows;
+      pays = omega (arith, i.2, c.spread_one.ensures.pays);
     }
 
 pub loop-n-preserved : goal.loop-n-preserved
@@ -40,13 +40,13 @@ loop-n-preserved g c =
     let src = g.S.Source.meaning c.args.source.now in
     let w = c.args.self.now in
     let u = c.loop-n.self in
-    let v = c.spread-one.new.self in
+    let v = c.spread_one.new.self in
     let i = c.loop-n.invariant in
     let pe = parent_then (walk w) (walk u) c.args.row c.loop-n.n c.parent-parent.result i.0 c.requires.inside c.parent-parent.ensures in
-    let h = subst (λ (y : ObjectId). SpreadOne src c.args.generation y (marks u) (walk u) (Ok tt) (marks v) (walk v)) pe c.in-ok-spread-one.ensures.is in (
-      ext_trans (walk w) (walk u) (walk v) i.0 c.spread-one.ensures.grows,
-      c.spread-one.ensures.held,
-      omega (arith, i.2, c.spread-one.ensures.pays),
+    let h = subst (λ (y : ObjectId). SpreadOne src c.args.generation y (marks u) (walk u) (Ok tt) (marks v) (walk v)) pe c.in_ok-spread_one.ensures.is in (
+      ext_trans (walk w) (walk u) (walk v) i.0 c.spread_one.ensures.grows,
+      c.spread_one.ensures.held,
+      omega (arith, i.2, c.spread_one.ensures.pays),
       (λ all out m. i.3 all out (spread_step src c.args.generation (parents_at w c.args.row) c.loop-n.n no_id (marks u) (marks v) (walk u) (walk v) (omega (arith, c.loop-n-test.true, c.head-count.ensures.parents)) h all out m)),
     )
 

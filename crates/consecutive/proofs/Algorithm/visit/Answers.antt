@@ -39,6 +39,6 @@ pub returns : goal.returns
 returns g c =
     let src = g.S.Source.meaning c.args.source.now in
     let w = c.args.self.now in
-    let v = c.spread-all.new.self in
+    let v = c.spread_all.new.self in
     let se : (flags_at (walk w) c.args.step.row).seen ≡ true = sym (ap (λ (f : Flags). f.seen) c.head.ensures.flags) ∙ sym c.if-not-intersects.ensures in
-    record { is = visit_near src (all c.args.ancestors) c.args.step (marks w) (marks v) (walk w) (walk v) c.spread-all.result se (sym c.if-not-reach.ensures) c.spread-all.ensures.is; held = c.spread-all.ensures.held; grows = c.spread-all.ensures.grows; pays = c.spread-all.ensures.pays }
+    record { is = visit_near src (all c.args.ancestors) c.args.step (marks w) (marks v) (walk w) (walk v) c.spread_all.result se (sym c.if-not-reach.ensures) c.spread_all.ensures.is; held = c.spread_all.ensures.held; grows = c.spread_all.ensures.grows; pays = c.spread_all.ensures.pays }

@@ -15,24 +15,24 @@ use Rattle.walk.proofs.Views.{looks_as}
 use Rattle.skipping.specs.Seen.{walk}
 use Rattle.skipping.proofs.Algorithm.add_to_queue.Goals as goal
 
-pub returns-in-err-row : goal.returns-in-err-row
-returns-in-err-row g c =
+pub returns-in_err-row : goal.returns-in_err-row
+returns-in_err-row g c =
     let src = g.S.Source.meaning c.args.source.now in
     let s = walk c.args.self.now in
     let t = walk c.lookup.new.self in
-    let l = c.in-err-row.ensures.is in
+    let l = c.in_err-row.ensures.is in
     let p = err_from_is_err_and c.from-residual.result c.from-residual.ensures.1 in
     record {
       is = subst (λ (r : Result (Unit {0}) Denial). Add src (unpack c.args.mask.bits) c.args.id s (ended r t)) (sym (p.1 ∙ ap (λ (x : Denial). Err x) p.2)) (add_err src (unpack c.args.mask.bits) c.args.id s t _ l);
-      grows = looks_ext src s c.args.id t (Err c.in-err-row.field-0.0) l;
+      grows = looks_ext src s c.args.id t (Err c.in_err-row.field-0.0) l;
     }
 
-pub returns-in-default : goal.returns-in-default
-returns-in-default g c =
+pub returns-in_default : goal.returns-in_default
+returns-in_default g c =
     let src = g.S.Source.meaning c.args.source.now in
     let s = walk c.args.self.now in
     let t = walk c.lookup.new.self in
-    let l = looks_as src s c.args.id t _ None c.in-default.is c.in-ok-row.ensures.is in
+    let l = looks_as src s c.args.id t _ None c.in_default.is c.in_ok-row.ensures.is in
     record { is = add_none src (unpack c.args.mask.bits) c.args.id s t l; grows = looks_ext src s c.args.id t (Ok None) l }
 
 pub enter-requires : goal.enter-requires
@@ -41,7 +41,7 @@ enter-requires g c =
     let s = walk c.args.self.now in
     let t = walk c.lookup.new.self in
     let k = c.in-Some.row in
-    let l = looks_as src s c.args.id t _ (Some k) c.in-Some.is c.in-ok-row.ensures.is in
+    let l = looks_as src s c.args.id t _ (Some k) c.in-Some.is c.in_ok-row.ensures.is in
     record { inside = (lookup_ext src s c.args.id k t l).1; adds = c.requires.adds; unseen = unseen_row src s c.args.id k t c.requires.unseen l }
 
 pub returns : goal.returns
@@ -51,7 +51,7 @@ returns g c =
     let t = walk c.lookup.new.self in
     let k = c.in-Some.row in
     let m = c.args.mask.bits in
-    let l = looks_as src s c.args.id t _ (Some k) c.in-Some.is c.in-ok-row.ensures.is in
+    let l = looks_as src s c.args.id t _ (Some k) c.in-Some.is c.in_ok-row.ensures.is in
     let x = lookup_ext src s c.args.id k t l in
     record {
       is = add_some src (unpack m) c.args.id s t _ k l c.enter.ensures;

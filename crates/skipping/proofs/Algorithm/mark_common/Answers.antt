@@ -12,24 +12,24 @@ use Rattle.skipping.specs.Seen.{walk}
 use Rattle.skipping.proofs.Begins.{space, number, held, marked, ext}
 use Rattle.skipping.proofs.Algorithm.mark_common.Goals as goal
 
-pub returns-in-err-row : goal.returns-in-err-row
-returns-in-err-row g c =
+pub returns-in_err-row : goal.returns-in_err-row
+returns-in_err-row g c =
     let src = g.S.Source.meaning c.args.source.now in
     let s = walk c.args.self.now in
     let t = walk c.lookup.new.self in
-    let l = c.in-err-row.ensures.is in
+    let l = c.in_err-row.ensures.is in
     let p = err_from_is_err_and c.from-residual.result c.from-residual.ensures.1 in
     record {
       is = subst (λ (r : Result (Unit {0}) Denial). Mark src c.args.id s (ended r t)) (sym (p.1 ∙ ap (λ (x : Denial). Err x) p.2)) (mark_err src c.args.id s t _ l);
-      grows = looks_ext src s c.args.id t (Err c.in-err-row.field-0.0) l;
+      grows = looks_ext src s c.args.id t (Err c.in_err-row.field-0.0) l;
     }
 
-pub returns-in-default : goal.returns-in-default
-returns-in-default g c =
+pub returns-in_default : goal.returns-in_default
+returns-in_default g c =
     let src = g.S.Source.meaning c.args.source.now in
     let s = walk c.args.self.now in
     let t = walk c.lookup.new.self in
-    let l = looks_as src s c.args.id t _ None c.in-default.is c.in-ok-row.ensures.is in
+    let l = looks_as src s c.args.id t _ None c.in_default.is c.in_ok-row.ensures.is in
     record { is = mark_none src c.args.id s t l; grows = looks_ext src s c.args.id t (Ok None) l }
 
 pub returns-then-intersects : goal.returns-then-intersects
@@ -38,32 +38,32 @@ returns-then-intersects g c =
     let s = walk c.args.self.now in
     let t = walk c.lookup.new.self in
     let k = c.in-Some.row in
-    let l = looks_as src s c.args.id t _ (Some k) c.in-Some.is c.in-ok-row.ensures.is in
+    let l = looks_as src s c.args.id t _ (Some k) c.in-Some.is c.in_ok-row.ensures.is in
     record { is = mark_had src c.args.id s t k l (sym (ap (λ (f : Flags). f.common) c.head.ensures.flags) ∙ sym c.if-intersects.ensures); grows = (lookup_ext src s c.args.id k t l).0 }
 
-pub make-common-requires : goal.make-common-requires
-make-common-requires g c =
+pub make_common-requires : goal.make_common-requires
+make_common-requires g c =
     let src = g.S.Source.meaning c.args.source.now in
     let s = walk c.args.self.now in
     let t = walk c.lookup.new.self in
     let k = c.in-Some.row in
-    let l = looks_as src s c.args.id t _ (Some k) c.in-Some.is c.in-ok-row.ensures.is in
+    let l = looks_as src s c.args.id t _ (Some k) c.in-Some.is c.in_ok-row.ensures.is in
     record { inside = (lookup_ext src s c.args.id k t l).1; lacks = sym (ap (λ (f : Flags). f.common) c.head.ensures.flags) ∙ sym c.if-intersects.ensures }
 
-pub enqueue-mark-requires : goal.enqueue-mark-requires
-enqueue-mark-requires g c =
+pub enqueue_mark-requires : goal.enqueue_mark-requires
+enqueue_mark-requires g c =
     let src = g.S.Source.meaning c.args.source.now in
     let s = c.args.self.now in
     let t = c.lookup.new.self in
-    let u = c.make-common.new.self in
-    let v = c.clear-marks.new.self in
+    let u = c.make_common.new.self in
+    let v = c.clear_marks.new.self in
     let k = c.in-Some.row in
-    let l = looks_as src (walk s) c.args.id (walk t) _ (Some k) c.in-Some.is c.in-ok-row.ensures.is in
+    let l = looks_as src (walk s) c.args.id (walk t) _ (Some k) c.in-Some.is c.in_ok-row.ensures.is in
     let un = sym (ap (λ (f : Flags). f.common) c.head.ensures.flags) ∙ sym c.if-intersects.ensures in
-    let cl = c.clear-marks.ensures in
+    let cl = c.clear_marks.ensures in
     record {
-      space = space src c.args.id s.state t.state u.state v v k l un c.make-common.ensures.is cl.is cl.same cl.numbers.1 t.fit c.make-common.ensures.quiet cl.rooms;
-      number = number src c.args.id s.state t.state u.state v v k l un c.make-common.ensures.is cl.is cl.same cl.numbers.1;
+      space = space src c.args.id s.state t.state u.state v v k l un c.make_common.ensures.is cl.is cl.same cl.numbers.1 t.fit c.make_common.ensures.quiet cl.rooms;
+      number = number src c.args.id s.state t.state u.state v v k l un c.make_common.ensures.is cl.is cl.same cl.numbers.1;
     }
 
 pub spread-requires : goal.spread-requires
@@ -71,30 +71,30 @@ spread-requires g c =
     let src = g.S.Source.meaning c.args.source.now in
     let s = c.args.self.now in
     let t = c.lookup.new.self in
-    let u = c.make-common.new.self in
-    let v = c.clear-marks.new.self in
-    let w = c.enqueue-mark.new.self in
+    let u = c.make_common.new.self in
+    let v = c.clear_marks.new.self in
+    let w = c.enqueue_mark.new.self in
     let k = c.in-Some.row in
-    let l = looks_as src (walk s) c.args.id (walk t) _ (Some k) c.in-Some.is c.in-ok-row.ensures.is in
+    let l = looks_as src (walk s) c.args.id (walk t) _ (Some k) c.in-Some.is c.in_ok-row.ensures.is in
     let un = sym (ap (λ (f : Flags). f.common) c.head.ensures.flags) ∙ sym c.if-intersects.ensures in
-    let cl = c.clear-marks.ensures in
-    let en = c.enqueue-mark.ensures in
-    held src c.args.id s.state t.state u.state v w k l un c.make-common.ensures.is cl.is cl.same cl.numbers.1 en.is en.same t.fit (c.requires k (walk t) l) en.numbers.1
+    let cl = c.clear_marks.ensures in
+    let en = c.enqueue_mark.ensures in
+    held src c.args.id s.state t.state u.state v w k l un c.make_common.ensures.is cl.is cl.same cl.numbers.1 en.is en.same t.fit (c.requires k (walk t) l) en.numbers.1
 
 pub returns : goal.returns
 returns g c =
     let src = g.S.Source.meaning c.args.source.now in
     let s = c.args.self.now in
     let t = c.lookup.new.self in
-    let u = c.make-common.new.self in
-    let v = c.clear-marks.new.self in
-    let w = c.enqueue-mark.new.self in
+    let u = c.make_common.new.self in
+    let v = c.clear_marks.new.self in
+    let w = c.enqueue_mark.new.self in
     let k = c.in-Some.row in
-    let l = looks_as src (walk s) c.args.id (walk t) _ (Some k) c.in-Some.is c.in-ok-row.ensures.is in
+    let l = looks_as src (walk s) c.args.id (walk t) _ (Some k) c.in-Some.is c.in_ok-row.ensures.is in
     let un = sym (ap (λ (f : Flags). f.common) c.head.ensures.flags) ∙ sym c.if-intersects.ensures in
-    let cl = c.clear-marks.ensures in
-    let en = c.enqueue-mark.ensures in
+    let cl = c.clear_marks.ensures in
+    let en = c.enqueue_mark.ensures in
     record {
-      is = marked src c.args.id s.state t.state u.state v w k l un c.make-common.ensures.is cl.is cl.same cl.numbers.1 en.is en.same _ c.spread.ensures.is;
-      grows = ext_trans (walk s) _ _ (ext src c.args.id s.state t.state u.state v w k l un c.make-common.ensures.is cl.is cl.same cl.numbers.1 en.is en.same) c.spread.ensures.grows;
+      is = marked src c.args.id s.state t.state u.state v w k l un c.make_common.ensures.is cl.is cl.same cl.numbers.1 en.is en.same _ c.spread.ensures.is;
+      grows = ext_trans (walk s) _ _ (ext src c.args.id s.state t.state u.state v w k l un c.make_common.ensures.is cl.is cl.same cl.numbers.1 en.is en.same) c.spread.ensures.grows;
     }

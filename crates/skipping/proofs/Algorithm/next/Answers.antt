@@ -17,56 +17,56 @@ use Rattle.skipping.proofs.Algorithm.next.Goals as goal
 same : (s t : Walk) (k : ℕ) (f : Flags) (o l : ℕ) → Took s k f o l t → Ext s t → (row t k).parents ≡ (row s k).parents
 same s t k f o l T x = x.same_parents k (omega (arith, T.inside, ap (λ (y : Walk). length y.rows) T.is, taken_long s k T.rest))
 
-pub push-parents-requires : goal.push-parents-requires
-push-parents-requires g c = c.in-Some.ensures.is.inside
+pub push_parents-requires : goal.push_parents-requires
+push_parents-requires g c = c.in-Some.ensures.is.inside
 
-pub returns-in-err-pushed : goal.returns-in-err-pushed
-returns-in-err-pushed g c =
+pub returns-in_err-pushed : goal.returns-in_err-pushed
+returns-in_err-pushed g c =
     let src = g.S.Source.meaning c.args.source.now in
     let w = walk c.args.self.now in
     let s = walk c.loop-turn.self in
-    let t = walk c.draw-row.new.self in
-    let v = walk c.push-parents.new.self in
+    let t = walk c.draw_row.new.self in
+    let v = walk c.push_parents.new.self in
     let r = c.in-Some.turn in
     let m = r.entry in
     let T = c.in-Some.ensures.is in
     let p = err_from_is_err_and c.from-residual.result c.from-residual.ensures.1 in
     subst (λ (x : Result (Option ℕ) Denial). Next src w (haves x) v) (sym (p.1 ∙ ap (λ (x : Denial). Err x) p.2))
-    (c.loop-turn.invariant _ v (next_stops src s t r.row (unpack m.flags.bits) m.original_ttl m.ttl T v _ (same s t r.row _ _ _ T c.in-Some.ensures.grows) c.in-err-pushed.ensures.is))
+    (c.loop-turn.invariant _ v (next_stops src s t r.row (unpack m.flags.bits) m.original_ttl m.ttl T v _ (same s t r.row _ _ _ T c.in-Some.ensures.grows) c.in_err-pushed.ensures.is))
 
-pub returns-then-is-offered : goal.returns-then-is-offered
-returns-then-is-offered g c =
+pub returns-then-is_offered : goal.returns-then-is_offered
+returns-then-is_offered g c =
     let src = g.S.Source.meaning c.args.source.now in
     let s = walk c.loop-turn.self in
-    let t = walk c.draw-row.new.self in
-    let v = walk c.push-parents.new.self in
+    let t = walk c.draw_row.new.self in
+    let v = walk c.push_parents.new.self in
     let r = c.in-Some.turn in
     let m = r.entry in
     let T = c.in-Some.ensures.is in
-    c.loop-turn.invariant _ v (next_answers src s t r.row (unpack m.flags.bits) m.original_ttl m.ttl T v c.in-ok-pushed.pushed (same s t r.row _ _ _ T c.in-Some.ensures.grows) c.in-ok-pushed.ensures.is (sym c.if-is-offered.ensures))
+    c.loop-turn.invariant _ v (next_answers src s t r.row (unpack m.flags.bits) m.original_ttl m.ttl T v c.in_ok-pushed.pushed (same s t r.row _ _ _ T c.in-Some.ensures.grows) c.in_ok-pushed.ensures.is (sym c.if-is_offered.ensures))
 
 pub loop-turn-preserved : goal.loop-turn-preserved
 loop-turn-preserved g c =
     let src = g.S.Source.meaning c.args.source.now in
     let s = walk c.loop-turn.self in
-    let t = walk c.draw-row.new.self in
-    let v = walk c.push-parents.new.self in
+    let t = walk c.draw_row.new.self in
+    let v = walk c.push_parents.new.self in
     let r = c.in-Some.turn in
     let m = r.entry in
     let T = c.in-Some.ensures.is in
-    λ a x n. c.loop-turn.invariant a x (next_goes_on src s t r.row (unpack m.flags.bits) m.original_ttl m.ttl T v c.in-ok-pushed.pushed (same s t r.row _ _ _ T c.in-Some.ensures.grows) c.in-ok-pushed.ensures.is (sym c.if-is-offered.ensures) a x n)
+    λ a x n. c.loop-turn.invariant a x (next_goes_on src s t r.row (unpack m.flags.bits) m.original_ttl m.ttl T v c.in_ok-pushed.pushed (same s t r.row _ _ _ T c.in-Some.ensures.grows) c.in_ok-pushed.ensures.is (sym c.if-is_offered.ensures) a x n)
 
 pub loop-turn-smaller : goal.loop-turn-smaller
 loop-turn-smaller g c =
     let src = g.S.Source.meaning c.args.source.now in
     let s = walk c.loop-turn.self in
-    let t = walk c.draw-row.new.self in
-    let u = c.push-parents.new.self in
+    let t = walk c.draw_row.new.self in
+    let u = c.push_parents.new.self in
     let v = walk u in
     let r = c.in-Some.turn in
     let m = r.entry in
     let T = c.in-Some.ensures.is in
     let x = c.in-Some.ensures.grows in
-    let y = c.push-parents.ensures.grows in
+    let y = c.push_parents.ensures.grows in
     let b : seen_rows v ≤ v.most_rows = fits_le SkipFit u.state _ _ u.fit (λ F. seens_rows v _ _ _ F) in
     omega (arith, b, x.most, y.most, x.pays, x.seens, y.pays, y.seens, took_less src s t r.row (unpack m.flags.bits) m.original_ttl m.ttl T)

@@ -16,90 +16,90 @@ use Rattle.skipping.specs.Seen.{walk}
 use Rattle.skipping.proofs.Adding.{unseen_is, unseen_ext}
 use Rattle.skipping.proofs.Algorithm.push_parent.Goals as goal
 
-pub returns-then-has-popped : goal.returns-then-has-popped
-returns-then-has-popped g c =
+pub returns-then-has_popped : goal.returns-then-has_popped
+returns-then-has_popped g c =
     let src = g.S.Source.meaning c.args.source.now in
     let m = c.args.entry in
     let s = walk c.args.self.now in
-    record { is = parent_popped src (unpack m.flags.bits) m.original_ttl m.ttl c.args.id s (sym c.if-has-popped.ensures); grows = ext_refl s }
+    record { is = parent_popped src (unpack m.flags.bits) m.original_ttl m.ttl c.args.id s (sym c.if-has_popped.ensures); grows = ext_refl s }
 
-pub returns-in-err-add-own : goal.returns-in-err-add-own
-returns-in-err-add-own g c =
+pub returns-in_err-add_own : goal.returns-in_err-add_own
+returns-in_err-add_own g c =
     let src = g.S.Source.meaning c.args.source.now in
     let m = c.args.entry in
     let s = walk c.args.self.now in
-    let t = walk c.add-own.new.self in
+    let t = walk c.add_own.new.self in
     let p = err_from_is_err_and c.from-residual.result c.from-residual.ensures.1 in
     record {
       is = subst (λ (r : Result Bool Denial). Pushed src (unpack m.flags.bits) m.original_ttl m.ttl c.args.id s r t) (sym (p.1 ∙ ap (λ (x : Denial). Err x) p.2))
-          (parent_stuck src (unpack m.flags.bits) m.original_ttl m.ttl c.args.id s t _ (sym c.if-has-popped.ensures) (unseen_is src SEEN c.args.id s _ t c.in-err-add-own.ensures));
-      grows = unseen_ext src SEEN c.args.id s _ t c.add-own.ensures;
+          (parent_stuck src (unpack m.flags.bits) m.original_ttl m.ttl c.args.id s t _ (sym c.if-has_popped.ensures) (unseen_is src SEEN c.args.id s _ t c.in_err-add_own.ensures));
+      grows = unseen_ext src SEEN c.args.id s _ t c.add_own.ensures;
     }
 
-pub mark-common-requires : goal.mark-common-requires
-mark-common-requires g c =
+pub mark_common-requires : goal.mark_common-requires
+mark_common-requires g c =
     let src = g.S.Source.meaning c.args.source.now in
     let s = walk c.args.self.now in
-    let t = walk c.add-own.new.self in
-    added_there src 8 c.args.id s t (inl refl) (unseen_is src SEEN c.args.id s _ t c.in-ok-add-own.ensures)
+    let t = walk c.add_own.new.self in
+    added_there src 8 c.args.id s t (inl refl) (unseen_is src SEEN c.args.id s _ t c.in_ok-add_own.ensures)
 
-pub returns-in-err-mark-common : goal.returns-in-err-mark-common
-returns-in-err-mark-common g c =
+pub returns-in_err-mark_common : goal.returns-in_err-mark_common
+returns-in_err-mark_common g c =
     let src = g.S.Source.meaning c.args.source.now in
     let m = c.args.entry in
     let s = walk c.args.self.now in
-    let t = walk c.add-own.new.self in
-    let u = walk c.mark-common.new.self in
-    let p = err_from_is_err_and c.from-residual-in-err-mark-common.result c.from-residual-in-err-mark-common.ensures.1 in
+    let t = walk c.add_own.new.self in
+    let u = walk c.mark_common.new.self in
+    let p = err_from_is_err_and c.from-residual-in_err-mark_common.result c.from-residual-in_err-mark_common.ensures.1 in
     record {
       is = subst (λ (r : Result Bool Denial). Pushed src (unpack m.flags.bits) m.original_ttl m.ttl c.args.id s r u) (sym (p.1 ∙ ap (λ (x : Denial). Err x) p.2))
-          (parent_halted src (unpack m.flags.bits) m.original_ttl m.ttl c.args.id s t u _ (sym c.if-has-popped.ensures) (unseen_is src SEEN c.args.id s _ t c.in-ok-add-own.ensures) (sym c.if-passes-common.ensures) c.in-err-mark-common.ensures.is);
-      grows = ext_trans s t u (unseen_ext src SEEN c.args.id s _ t c.add-own.ensures) c.mark-common.ensures.grows;
+          (parent_halted src (unpack m.flags.bits) m.original_ttl m.ttl c.args.id s t u _ (sym c.if-has_popped.ensures) (unseen_is src SEEN c.args.id s _ t c.in_ok-add_own.ensures) (sym c.if-passes_common.ensures) c.in_err-mark_common.ensures.is);
+      grows = ext_trans s t u (unseen_ext src SEEN c.args.id s _ t c.add_own.ensures) c.mark_common.ensures.grows;
     }
 
-pub returns-then-passes-common : goal.returns-then-passes-common
-returns-then-passes-common g c =
+pub returns-then-passes_common : goal.returns-then-passes_common
+returns-then-passes_common g c =
     let src = g.S.Source.meaning c.args.source.now in
     let m = c.args.entry in
     let s = walk c.args.self.now in
-    let t = walk c.add-own.new.self in
-    let u = walk c.mark-common.new.self in
+    let t = walk c.add_own.new.self in
+    let u = walk c.mark_common.new.self in
     record {
-      is = parent_marked src (unpack m.flags.bits) m.original_ttl m.ttl c.args.id s t u (sym c.if-has-popped.ensures) (unseen_is src SEEN c.args.id s _ t c.in-ok-add-own.ensures) (sym c.if-passes-common.ensures) c.in-ok-mark-common.ensures.is;
-      grows = ext_trans s t u (unseen_ext src SEEN c.args.id s _ t c.add-own.ensures) c.mark-common.ensures.grows;
+      is = parent_marked src (unpack m.flags.bits) m.original_ttl m.ttl c.args.id s t u (sym c.if-has_popped.ensures) (unseen_is src SEEN c.args.id s _ t c.in_ok-add_own.ensures) (sym c.if-passes_common.ensures) c.in_ok-mark_common.ensures.is;
+      grows = ext_trans s t u (unseen_ext src SEEN c.args.id s _ t c.add_own.ensures) c.mark_common.ensures.grows;
     }
 
-pub returns-in-err-row : goal.returns-in-err-row
-returns-in-err-row g c =
+pub returns-in_err-row : goal.returns-in_err-row
+returns-in_err-row g c =
     let src = g.S.Source.meaning c.args.source.now in
     let m = c.args.entry in
     let s = walk c.args.self.now in
-    let t = walk c.add-own.new.self in
-    let u = walk c.parent-row.new.self in
-    let p = err_from_is_err_and c.from-residual-in-err-row.result c.from-residual-in-err-row.ensures.1 in
-    let h = c.in-err-row.ensures in
+    let t = walk c.add_own.new.self in
+    let u = walk c.parent_row.new.self in
+    let p = err_from_is_err_and c.from-residual-in_err-row.result c.from-residual-in_err-row.ensures.1 in
+    let h = c.in_err-row.ensures in
     record {
       is = subst (λ (r : Result Bool Denial). Pushed src (unpack m.flags.bits) m.original_ttl m.ttl c.args.id s r u) (sym (p.1 ∙ ap (λ (x : Denial). Err x) (p.2 ∙ h.0)))
-          (parent_lost src (unpack m.flags.bits) m.original_ttl m.ttl c.args.id s t u (sym c.if-has-popped.ensures) (unseen_is src SEEN c.args.id s _ t c.in-ok-add-own.ensures) (sym c.if-passes-common.ensures) (found_none _ h.1) h.2);
-      grows = subst (λ (w : Walk). Ext s w) (sym h.2) (ext_trans s t _ (unseen_ext src SEEN c.args.id s _ t c.add-own.ensures) (stop_ext t));
+          (parent_lost src (unpack m.flags.bits) m.original_ttl m.ttl c.args.id s t u (sym c.if-has_popped.ensures) (unseen_is src SEEN c.args.id s _ t c.in_ok-add_own.ensures) (sym c.if-passes_common.ensures) (found_none _ h.1) h.2);
+      grows = subst (λ (w : Walk). Ext s w) (sym h.2) (ext_trans s t _ (unseen_ext src SEEN c.args.id s _ t c.add_own.ensures) (stop_ext t));
     }
 
 pub renumber-requires : goal.renumber-requires
 renumber-requires g c =
-    let h = c.in-ok-row.ensures in
-    subst (λ (w : Walk). c.in-ok-row.row < length w.rows) (sym h.1) (find_some c.args.id (walk c.add-own.new.self).rows c.in-ok-row.row (found_some _ _ h.0)).0
+    let h = c.in_ok-row.ensures in
+    subst (λ (w : Walk). c.in_ok-row.row < length w.rows) (sym h.1) (find_some c.args.id (walk c.add_own.new.self).rows c.in_ok-row.row (found_some _ _ h.0)).0
 
 pub returns : goal.returns
 returns g c =
     let src = g.S.Source.meaning c.args.source.now in
     let m = c.args.entry in
     let s = walk c.args.self.now in
-    let t = walk c.add-own.new.self in
-    let k = c.in-ok-row.row in
-    let h = c.in-ok-row.ensures in
+    let t = walk c.add_own.new.self in
+    let k = c.in_ok-row.row in
+    let h = c.in_ok-row.ensures in
     let e = found_some _ k h.0 in
     let is = c.renumber.ensures ∙ ap (λ (w : Walk). numbered m.original_ttl m.ttl w k) h.1 in
     record {
-      is = parent_hands src (unpack m.flags.bits) m.original_ttl m.ttl c.args.id s t _ k (sym c.if-has-popped.ensures) (unseen_is src SEEN c.args.id s _ t c.in-ok-add-own.ensures) (sym c.if-passes-common.ensures) e is;
-      grows = subst (λ (w : Walk). Ext s w) (sym is) (ext_trans s t _ (unseen_ext src SEEN c.args.id s _ t c.add-own.ensures) (numbered_ext t k m.original_ttl m.ttl (find_some c.args.id t.rows k e).0));
+      is = parent_hands src (unpack m.flags.bits) m.original_ttl m.ttl c.args.id s t _ k (sym c.if-has_popped.ensures) (unseen_is src SEEN c.args.id s _ t c.in_ok-add_own.ensures) (sym c.if-passes_common.ensures) e is;
+      grows = subst (λ (w : Walk). Ext s w) (sym is) (ext_trans s t _ (unseen_ext src SEEN c.args.id s _ t c.add_own.ensures) (numbered_ext t k m.original_ttl m.ttl (find_some c.args.id t.rows k e).0));
     }

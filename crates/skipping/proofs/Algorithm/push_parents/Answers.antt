@@ -18,25 +18,25 @@ loop-n-init g c =
     let w = c.args.self.now in
     (ext_refl (walk w), hand_start src (unpack m.flags.bits) m.original_ttl m.ttl (parents_at w c.args.row) (walk w))
 
-pub returns-in-err-pushed : goal.returns-in-err-pushed
-returns-in-err-pushed g c =
+pub returns-in_err-pushed : goal.returns-in_err-pushed
+returns-in_err-pushed g c =
     let src = g.S.Source.meaning c.args.source.now in
     let m = c.args.metadata in
     let w = c.args.self.now in
     let u = c.loop-n.self in
-    let v = c.push-parent.new.self in
+    let v = c.push_parent.new.self in
     let k = c.args.row in
     let i = c.loop-n.invariant in
     let ps = parents_at w k in
     let n = c.loop-n.n in
-    let d = c.in-err-pushed.field-0.0 in
+    let d = c.in_err-pushed.field-0.0 in
     let pe : c.parent-parent.result ≡ get_or ps n no_id = c.parent-parent.ensures ∙ ap (λ (l : List ObjectId). get_or l n no_id) (i.0.same_parents k c.requires) in
-    let h = subst (λ (y : ObjectId). Pushed src (unpack m.flags.bits) m.original_ttl m.ttl y (walk u) (Err d) (walk v)) pe c.in-err-pushed.ensures.is in
+    let h = subst (λ (y : ObjectId). Pushed src (unpack m.flags.bits) m.original_ttl m.ttl y (walk u) (Err d) (walk v)) pe c.in_err-pushed.ensures.is in
     let p = err_from_is_err_and c.from-residual.result c.from-residual.ensures.1 in
     record {
       is = subst (λ (r : Result Bool Denial). Handed src (unpack m.flags.bits) m.original_ttl m.ttl ps (walk w) r (walk v)) (sym (p.1 ∙ ap (λ (x : Denial). Err x) p.2))
           (hand_stop src (unpack m.flags.bits) m.original_ttl m.ttl ps (walk w) c.loop-n.pushed n no_id (walk u) (walk v) d (omega (arith, c.loop-n-test.true, c.head-count.ensures.parents)) i.1 h);
-      grows = ext_trans (walk w) (walk u) (walk v) i.0 c.push-parent.ensures.grows;
+      grows = ext_trans (walk w) (walk u) (walk v) i.0 c.push_parent.ensures.grows;
     }
 
 pub loop-n-preserved : goal.loop-n-preserved
@@ -45,15 +45,15 @@ loop-n-preserved g c =
     let m = c.args.metadata in
     let w = c.args.self.now in
     let u = c.loop-n.self in
-    let v = c.push-parent.new.self in
+    let v = c.push_parent.new.self in
     let k = c.args.row in
     let i = c.loop-n.invariant in
     let ps = parents_at w k in
     let n = c.loop-n.n in
-    let b = c.in-ok-pushed.field-0 in
+    let b = c.in_ok-pushed.field-0 in
     let pe : c.parent-parent.result ≡ get_or ps n no_id = c.parent-parent.ensures ∙ ap (λ (l : List ObjectId). get_or l n no_id) (i.0.same_parents k c.requires) in
-    let h = subst (λ (y : ObjectId). Pushed src (unpack m.flags.bits) m.original_ttl m.ttl y (walk u) (Ok b) (walk v)) pe c.in-ok-pushed.ensures.is in (
-      ext_trans (walk w) (walk u) (walk v) i.0 c.push-parent.ensures.grows,
+    let h = subst (λ (y : ObjectId). Pushed src (unpack m.flags.bits) m.original_ttl m.ttl y (walk u) (Ok b) (walk v)) pe c.in_ok-pushed.ensures.is in (
+      ext_trans (walk w) (walk u) (walk v) i.0 c.push_parent.ensures.grows,
       hand_step src (unpack m.flags.bits) m.original_ttl m.ttl ps (walk w) c.loop-n.pushed b n no_id (walk u) (walk v) (omega (arith, c.loop-n-test.true, c.head-count.ensures.parents)) i.1 h,
     )
 

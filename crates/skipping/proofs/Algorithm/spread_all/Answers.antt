@@ -12,22 +12,22 @@ use Rattle.skipping.proofs.Algorithm.spread_all.Goals as goal
 pub loop-n-init : goal.loop-n-init
 loop-n-init c = (ext_refl (walk c.args.self.now), c.requires.held, omega arith, λ t m. m)
 
-pub spread-one-requires : goal.spread-one-requires
-spread-one-requires c = c.loop-n.invariant.1
+pub spread_one-requires : goal.spread_one-requires
+spread_one-requires c = c.loop-n.invariant.1
 
 pub loop-n-preserved : goal.loop-n-preserved
 loop-n-preserved c =
     let w = c.args.self.now in
     let u = c.loop-n.self in
-    let v = c.spread-one.new.self in
+    let v = c.spread_one.new.self in
     let k = c.args.row in
     let i = c.loop-n.invariant in
     let ps = parents_at w k in
     let pe : c.parent-parent.result ≡ get_or ps c.loop-n.n no_id = c.parent-parent.ensures ∙ ap (λ (l : List ObjectId). get_or l c.loop-n.n no_id) (i.0.same_parents k c.requires.inside) in
-    let h = subst (λ (y : ObjectId). SpreadOne y (marks u) (walk u) (marks v) (walk v)) pe c.spread-one.ensures.is in (
-      ext_trans (walk w) (walk u) (walk v) i.0 c.spread-one.ensures.grows,
-      c.spread-one.ensures.held,
-      omega (arith, i.2, c.spread-one.ensures.pays),
+    let h = subst (λ (y : ObjectId). SpreadOne y (marks u) (walk u) (marks v) (walk v)) pe c.spread_one.ensures.is in (
+      ext_trans (walk w) (walk u) (walk v) i.0 c.spread_one.ensures.grows,
+      c.spread_one.ensures.held,
+      omega (arith, i.2, c.spread_one.ensures.pays),
       (λ t m. i.3 t (all_step ps c.loop-n.n no_id (marks u) (marks v) (walk u) (walk v) (omega (arith, c.loop-n-test.true, c.head-count.ensures.parents)) h t m)),
     )
 

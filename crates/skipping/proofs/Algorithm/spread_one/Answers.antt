@@ -7,21 +7,21 @@ use Rattle.model.proofs.SkipMoves.{one_none, one_had}
 use Rattle.walk.proofs.Keeps.{fits_same}
 use Rattle.walk.proofs.Views.{found_none, found_some}
 use Rattle.skipping.specs.Seen.{walk, marks}
-use Rattle.skipping.proofs.Gains.{gain_ext, unseen_is, unseen_keeps, unseen_pays, space, number, seen-is, seen-keeps, seen_ext, seen-pays}
+use Rattle.skipping.proofs.Gains.{gain_ext, unseen_is, unseen_keeps, unseen_pays, space, number, seen_is, seen_keeps, seen_ext, seen_pays}
 use Rattle.skipping.proofs.Algorithm.spread_one.Goals as goal
 
-pub returns-in-default : goal.returns-in-default
-returns-in-default c =
+pub returns-in_default : goal.returns-in_default
+returns-in_default c =
     let w = c.args.self.now in
-    record { is = one_none c.args.id (marks w) (walk w) (found_none _ c.in-default.ensures); held = c.requires; grows = ext_refl (walk w); pays = omega arith }
+    record { is = one_none c.args.id (marks w) (walk w) (found_none _ c.in_default.ensures); held = c.requires; grows = ext_refl (walk w); pays = omega arith }
 
 pub returns-then-intersects : goal.returns-then-intersects
 returns-then-intersects c =
     let w = c.args.self.now in
     record { is = one_had c.args.id (marks w) (walk w) c.in-Some.row (found_some _ _ c.in-Some.ensures) (sym (ap (λ (f : Flags). f.common) c.head.ensures.flags) ∙ sym c.if-intersects.ensures); held = c.requires; grows = ext_refl (walk w); pays = omega arith }
 
-pub make-common-requires : goal.make-common-requires
-make-common-requires c =
+pub make_common-requires : goal.make_common-requires
+make_common-requires c =
     let w = c.args.self.now in
     record { inside = (find_some c.args.id (walk w).rows c.in-Some.row (found_some _ _ c.in-Some.ensures)).0; lacks = sym (ap (λ (f : Flags). f.common) c.head.ensures.flags) ∙ sym c.if-intersects.ensures }
 
@@ -31,29 +31,29 @@ returns-then-not-intersects c =
     let e = found_some _ _ c.in-Some.ensures in
     let un = sym (ap (λ (f : Flags). f.common) c.head.ensures.flags) ∙ sym c.if-intersects.ensures in
     let se = sym (ap (λ (f : Flags). f.seen) c.head.ensures.flags) ∙ sym c.if-not-intersects.ensures in
-    let t = c.make-common.new.self.state in
+    let t = c.make_common.new.self.state in
     record {
-      is = unseen_is c.args.id w.state t _ e un c.make-common.ensures.quiet c.make-common.ensures.is c.requires se;
-      held = unseen_keeps c.args.id w.state t _ e un c.make-common.ensures.quiet c.make-common.ensures.is c.requires;
-      grows = gain_ext c.args.id w.state t _ e un c.make-common.ensures.quiet c.make-common.ensures.is c.requires;
-      pays = unseen_pays c.args.id w.state t _ e un c.make-common.ensures.quiet c.make-common.ensures.is c.requires;
+      is = unseen_is c.args.id w.state t _ e un c.make_common.ensures.quiet c.make_common.ensures.is c.requires se;
+      held = unseen_keeps c.args.id w.state t _ e un c.make_common.ensures.quiet c.make_common.ensures.is c.requires;
+      grows = gain_ext c.args.id w.state t _ e un c.make_common.ensures.quiet c.make_common.ensures.is c.requires;
+      pays = unseen_pays c.args.id w.state t _ e un c.make_common.ensures.quiet c.make_common.ensures.is c.requires;
     }
 
-pub enqueue-mark-requires : goal.enqueue-mark-requires
-enqueue-mark-requires c =
+pub enqueue_mark-requires : goal.enqueue_mark-requires
+enqueue_mark-requires c =
     let w = c.args.self.now in
     let e = found_some _ _ c.in-Some.ensures in
     let un = sym (ap (λ (f : Flags). f.common) c.head.ensures.flags) ∙ sym c.if-intersects.ensures in
-    let t = c.make-common.new.self in
+    let t = c.make_common.new.self in
     record {
-      space = space c.args.id w.state t.state _ e un c.make-common.ensures.quiet c.make-common.ensures.is c.requires t.fit;
-      number = number c.args.id w.state t.state _ e un c.make-common.ensures.quiet c.make-common.ensures.is c.requires t.fit;
+      space = space c.args.id w.state t.state _ e un c.make_common.ensures.quiet c.make_common.ensures.is c.requires t.fit;
+      number = number c.args.id w.state t.state _ e un c.make_common.ensures.quiet c.make_common.ensures.is c.requires t.fit;
     }
 
-pub invariant-of-self : goal.invariant-of-self
-invariant-of-self c =
-    let t = c.make-common.new.self in
-    (fits_same SkipFit t.state _ t.fit c.enqueue-mark.ensures.rooms c.enqueue-mark.ensures.same c.enqueue-mark.ensures.numbers.0, tt)
+pub invariant_of-self : goal.invariant_of-self
+invariant_of-self c =
+    let t = c.make_common.new.self in
+    record { fit = fits_same SkipFit t.state _ t.fit c.enqueue_mark.ensures.rooms c.enqueue_mark.ensures.same c.enqueue_mark.ensures.numbers.0 }
 
 pub returns : goal.returns
 returns c =
@@ -61,12 +61,12 @@ returns c =
     let e = found_some _ _ c.in-Some.ensures in
     let un = sym (ap (λ (f : Flags). f.common) c.head.ensures.flags) ∙ sym c.if-intersects.ensures in
     let se = sym (ap (λ (f : Flags). f.seen) c.head.ensures.flags) ∙ sym c.if-not-intersects.ensures in
-    let t = c.make-common.new.self.state in
-    let u = c.enqueue-mark.new.self in
-    let ens = c.enqueue-mark.ensures in
+    let t = c.make_common.new.self.state in
+    let u = c.enqueue_mark.new.self in
+    let ens = c.enqueue_mark.ensures in
     record {
-      is = seen-is c.args.id w.state t _ e un c.make-common.ensures.quiet c.make-common.ensures.is c.requires se u ens.same ens.is ens.numbers.1;
-      held = seen-keeps c.args.id w.state t _ e un c.make-common.ensures.quiet c.make-common.ensures.is c.requires se u ens.same ens.is ens.numbers.1;
-      grows = seen_ext c.args.id w.state t _ e un c.make-common.ensures.quiet c.make-common.ensures.is c.requires se u ens.same ens.is ens.numbers.1;
-      pays = seen-pays c.args.id w.state t _ e un c.make-common.ensures.quiet c.make-common.ensures.is c.requires se u ens.same ens.is ens.numbers.1;
+      is = seen_is c.args.id w.state t _ e un c.make_common.ensures.quiet c.make_common.ensures.is c.requires se u ens.same ens.is ens.numbers.1;
+      held = seen_keeps c.args.id w.state t _ e un c.make_common.ensures.quiet c.make_common.ensures.is c.requires se u ens.same ens.is ens.numbers.1;
+      grows = seen_ext c.args.id w.state t _ e un c.make_common.ensures.quiet c.make_common.ensures.is c.requires se u ens.same ens.is ens.numbers.1;
+      pays = seen_pays c.args.id w.state t _ e un c.make_common.ensures.quiet c.make_common.ensures.is c.requires se u ens.same ens.is ens.numbers.1;
     }

@@ -3,7 +3,7 @@ use Rattle.book.specs.Model.{model}
 use Rattle.model.specs.View.{rows_of}
 use Rattle.unacknowledged.proofs.Turns.{list_more, list_all, adds, passes, rests}
 use Rattle.unacknowledged.proofs.listing.list.Goals as goal
-use Rattle.unacknowledged.proofs.listing.list.Goals.{in-Have+then-not-is-acknowledged+in-ok-push, in-Have+else-not-is-acknowledged, in-default}
+use Rattle.unacknowledged.proofs.listing.list.Goals.{in-Have+then-not-is_acknowledged+in_ok-push, in-Have+else-not-is_acknowledged, in_default}
 
 pub loop-event-preserved : goal.loop-event-preserved
 loop-event-preserved c =
@@ -14,15 +14,15 @@ loop-event-preserved c =
     elim c.match-event.branch [
       | in-Have+then-not-is-acknowledged+in-ok-push w ↦
           list_more all rows all c.loop-event.event-index _ xs ys _ _ c.loop-event-test.true w.in-Have.is
-          (λ more. adds all rows w.in-Have.row w.commit-at-commit.result xs ys more w.commit-at-commit.ensures (sym w.if-not-is-acknowledged.ensures) (ap vec_items w.commits-is ∙ w.in-ok-push.ensures.items))
+          (λ more. adds all rows w.in-Have.row w.commit_at-commit.result xs ys more w.commit_at-commit.ensures (sym w.if-not-is_acknowledged.ensures) (ap vec_items w.commits-is ∙ w.in_ok-push.ensures.items))
           c.loop-event.invariant
       | in-Have+else-not-is-acknowledged w ↦
           list_more all rows all c.loop-event.event-index _ xs ys _ _ c.loop-event-test.true w.in-Have.is
-          (λ more. passes all rows w.in-Have.row w.commit-at-commit.result xs ys more w.commit-at-commit.ensures (sym w.if-not-is-acknowledged.ensures) (ap vec_items w.commits-is))
+          (λ more. passes all rows w.in-Have.row w.commit_at-commit.result xs ys more w.commit_at-commit.ensures (sym w.if-not-is_acknowledged.ensures) (ap vec_items w.commits-is))
           c.loop-event.invariant
-      | in-default w ↦
+      | in_default w ↦
           list_more all rows all c.loop-event.event-index _ xs ys _ _ c.loop-event-test.true refl
-          (λ more. rests all rows _ xs ys more w.in-default.not-Have (ap vec_items w.commits-is)) c.loop-event.invariant
+          (λ more. rests all rows _ xs ys more w.in_default.not-Have (ap vec_items w.commits-is)) c.loop-event.invariant
     ]
 
 pub returns : goal.returns

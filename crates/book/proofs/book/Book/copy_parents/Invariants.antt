@@ -1,4 +1,4 @@
-use Rattle.std.proofs.Common.{◌≡◌, ◌≤◌}
+use Rattle.std.proofs.Common.{◌≡◌}
 use Rattle.source.specs.Meaning.{parents_of}
 use Rattle.book.specs.Model.{Copied}
 use Rattle.book.proofs.book.Book.copy_parents.Given as goal

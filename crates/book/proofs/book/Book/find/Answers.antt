@@ -1,4 +1,4 @@
-use Rattle.std.proofs.Common.{◌≡◌, ℕ, ◌-◌, ◌<◌, ◌≤◌, ◌≢◌, List, get_or, vec_items, sym, ap, ◌∙◌, ⊎_elim, arith}
+use Rattle.std.proofs.Common.{◌≡◌, ℕ, ◌-◌, ◌<◌, ◌≤◌, ◌≢◌, List, get_or, vec_items, ap, ◌∙◌, ⊎_elim, arith}
 use Rattle.std.proofs.lemmas.Bool.{cases_eq}
 use Rattle.source.specs.declared.ObjectId.{ObjectId}
 use Rattle.source.specs.Ids.{place, is_same_id}
@@ -15,8 +15,8 @@ pub loop-at-init : goal.loop-at-init
 loop-at-init c =
     let b = c.args.self.now in
     walk (ids_in b) b.limit b.used b.used c.index.result.now.head c.args.id
-    (read_of head_of (vec_items b.rows) c.bucket-of.result c.index.result.now 0 (omega arith) c.index.ensures
-    ∙ (b.headed c.bucket-of.result c.bucket-of.ensures.bound ∙ ap (λ (h : ℕ). last (ids_in b) b.limit h b.used) c.bucket-of.ensures.value))
+    (read_of head_of (vec_items b.rows) c.bucket_of.result c.index.result.now 0 (omega arith) c.index.ensures
+    ∙ (b.headed c.bucket_of.result c.bucket_of.ensures.bound ∙ ap (λ (h : ℕ). last (ids_in b) b.limit h b.used) c.bucket_of.ensures.value))
     (omega arith) (λ j l k. absurd (omega arith))
 
 -- the next row of the chain, at which the walk goes on

@@ -1,4 +1,4 @@
-use Rattle.std.proofs.Common.{◌≡◌, ℕ, ◌-◌, ◌<◌, ◌≤◌, true, false, map, get_or, vec_items}
+use Rattle.std.proofs.Common.{◌≡◌, ℕ, ◌-◌, ◌<◌, ◌≤◌, false, map, get_or, vec_items}
 use Rattle.source.specs.Ids.{is_same_id}
 use Rattle.book.specs.Rows.{no_id}
 use Rattle.book.specs.Index.{hash, id_of}

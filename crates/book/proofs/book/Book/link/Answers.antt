@@ -1,5 +1,3 @@
-use Rattle.std.proofs.Common.{◌≡◌, Some, sym, ap, ◌∙◌}
-use Rattle.source.specs.declared.ObjectId.{ObjectId}
 use Rattle.book.proofs.Readings.{link_in, link_past, link_none}
 use Rattle.book.proofs.book.Book.link.Goals as goal
 

@@ -1,4 +1,4 @@
-use Rattle.std.proofs.Common.{◌≡◌, ℕ, zero, suc, ◌≤◌, List, map, get_or, replicate, refl, ap, ◌∙◌, arith}
+use Rattle.std.proofs.Common.{◌≡◌, ℕ, zero, suc, List, map, get_or, replicate, refl, ap, ◌∙◌, arith}
 use Rattle.book.specs.declared.types.Row.{Row}
 use Rattle.book.specs.Index.{head_of}
 use Rattle.book.specs.Rows.{empty_row}
@@ -9,29 +9,14 @@ no_head zero h = refl
 no_head (suc n) zero = refl
 no_head (suc n) (suc h) = no_head n h
 
-pub invariant-of-result : goal.invariant-of-result
-invariant-of-result c = (
-  omega arith,
-  (
-    omega arith,
-    (
-      omega arith,
-      (
-        omega arith,
-        (
-          λ k d l. absurd (omega arith),
-          (
-            λ k l. absurd (omega arith),
-            (
-              λ h l. ap (λ (rs : List Row). get_or (map head_of rs) h 0) c.requires.zeroes ∙ no_head _ h,
-              (
-                λ j k l. absurd (omega arith),
-                tt,
-              ),
-            ),
-          ),
-        ),
-      ),
-    ),
-  ),
-)
+pub invariant_of-result : goal.invariant_of-result
+invariant_of-result c = record {
+  within = omega arith;
+  lent = omega arith;
+  narrow = omega arith;
+  room = omega arith;
+  inside = λ k d l. absurd (omega arith);
+  chained = λ k l. absurd (omega arith);
+  headed = λ h l. ap (λ (rs : List Row). get_or (map head_of rs) h 0) c.requires.zeroes ∙ no_head _ h;
+  distinct = λ j k l. absurd (omega arith);
+}

@@ -1,4 +1,4 @@
-use Rattle.std.proofs.Common.{refl, arith, rules}
+use Rattle.std.proofs.Common.{refl, rules}
 use Rattle.book.specs.Index.{hash}
 use Rattle.book.proofs.book.index.bucket_of.Goals as goal
 

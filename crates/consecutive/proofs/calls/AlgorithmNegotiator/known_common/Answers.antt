@@ -11,23 +11,23 @@ use Rattle.model.proofs.Calls.{answers, tip_ran, known_ran}
 use Rattle.consecutive.specs.Seen.{walk}
 use Rattle.consecutive.proofs.calls.AlgorithmNegotiator.known_common.Goals as goal
 
-pub returns-then-is-stopped : goal.returns-then-is-stopped
-returns-then-is-stopped g c = answers _ _ _ _ _ _ (inl (sym c.if-is-stopped.ensures, refl, refl))
+pub returns-then-is_stopped : goal.returns-then-is_stopped
+returns-then-is_stopped g c = answers _ _ _ _ _ _ (inl (sym c.if-is_stopped.ensures, refl, refl))
 
-pub returns-then-has-seen : goal.returns-then-has-seen
-returns-then-has-seen g c = answers _ _ _ _ _ _ (inr (sym c.if-is-stopped.ensures, steps.Ran.known_seen (sym c.if-has-seen.ensures)))
+pub returns-then-has_seen : goal.returns-then-has_seen
+returns-then-has_seen g c = answers _ _ _ _ _ _ (inr (sym c.if-is_stopped.ensures, steps.Ran.known_seen (sym c.if-has_seen.ensures)))
 
 pub push-requires : goal.push-requires
-push-requires g c = inr (inl refl, sym c.if-has-seen.ensures)
+push-requires g c = inr (inl refl, sym c.if-has_seen.ensures)
 
-pub returns-in-err-push : goal.returns-in-err-push
-returns-in-err-push g c =
+pub returns-in_err-push : goal.returns-in_err-push
+returns-in_err-push g c =
     let src = g.S.Source.meaning c.args.source.now in
     let s = walk c.args.self.now in
     let t = walk c.push.new.self in
     let p = err_from_is_err_and c.from-residual.result c.from-residual.ensures.1 in
     subst (λ (r : Result (Unit {0}) Denial). Answers Consecutive src s (KnownCommon c.args.id) (dones r) t) (sym (p.1 ∙ ap (λ (x : Denial). Err x) p.2))
-    (answers Consecutive src s t (KnownCommon c.args.id) (Denied c.in-err-push.field-0.0) (inr (sym c.if-is-stopped.ensures, steps.Ran.known_no (sym c.if-has-seen.ensures) c.in-err-push.ensures.is)))
+    (answers Consecutive src s t (KnownCommon c.args.id) (Denied c.in_err-push.field-0.0) (inr (sym c.if-is_stopped.ensures, steps.Ran.known_no (sym c.if-has_seen.ensures) c.in_err-push.ensures.is)))
 
 pub returns : goal.returns
-returns g c = answers _ _ _ _ _ _ (inr (sym c.if-is-stopped.ensures, known_ran _ _ _ _ _ c.mark-common.result (sym c.if-has-seen.ensures) c.in-ok-push.ensures.is c.mark-common.ensures.is))
+returns g c = answers _ _ _ _ _ _ (inr (sym c.if-is_stopped.ensures, known_ran _ _ _ _ _ c.mark_common.result (sym c.if-has_seen.ensures) c.in_ok-push.ensures.is c.mark_common.ensures.is))

@@ -11,8 +11,8 @@ use Rattle.model.proofs.Calls.{answers, tip_ran, known_ran}
 use Rattle.consecutive.specs.Seen.{walk}
 use Rattle.consecutive.proofs.calls.AlgorithmNegotiator.next_have.Goals as goal
 
-pub returns-then-is-stopped : goal.returns-then-is-stopped
-returns-then-is-stopped g c = answers _ _ _ _ _ _ (inl (sym c.if-is-stopped.ensures, refl, refl))
+pub returns-then-is_stopped : goal.returns-then-is_stopped
+returns-then-is_stopped g c = answers _ _ _ _ _ _ (inl (sym c.if-is_stopped.ensures, refl, refl))
 
 pub returns : goal.returns
-returns g c = answers _ _ _ _ _ _ (inr (sym c.if-is-stopped.ensures, steps.Ran.next_have c.next.ensures.is))
+returns g c = answers _ _ _ _ _ _ (inr (sym c.if-is_stopped.ensures, steps.Ran.next_have c.next.ensures.is))

@@ -3,8 +3,8 @@ use Rattle.model.specs.Noop
 use Rattle.model.proofs.Calls.{answers}
 use Rattle.negotiate.proofs.noop.NoopNegotiator.add_tip.Goals as goal
 
-pub returns-then-is-stopped : goal.returns-then-is-stopped
-returns-then-is-stopped g c = answers _ _ _ _ _ _ (inl (sym c.if-is-stopped.ensures, refl, refl))
+pub returns-then-is_stopped : goal.returns-then-is_stopped
+returns-then-is_stopped g c = answers _ _ _ _ _ _ (inl (sym c.if-is_stopped.ensures, refl, refl))
 
 pub returns : goal.returns
-returns g c = answers _ _ _ _ _ _ (inr (sym c.if-is-stopped.ensures, Noop.Ran.tips))
+returns g c = answers _ _ _ _ _ _ (inr (sym c.if-is_stopped.ensures, Noop.Ran.tips))

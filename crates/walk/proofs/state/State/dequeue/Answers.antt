@@ -4,11 +4,11 @@ use Rattle.walk.proofs.Views.{drew_none, drew_some}
 use Rattle.walk.specs.View.{view, marks, places, numbered, mark_places, mark_numbered}
 use Rattle.walk.proofs.state.State.dequeue.Goals as goal
 
-pub returns-in-default : goal.returns-in-default
+pub returns-in_default : goal.returns-in_default
 unfolding view marks places numbered mark_places mark_numbered
-returns-in-default c =
+returns-in_default c =
     record {
-      is = drew_none (model c.args.self.now.book) _ _ _ c.in-default.ensures.value c.draw.ensures.waits;
+      is = drew_none (model c.args.self.now.book) _ _ _ c.in_default.ensures.value c.draw.ensures.waits;
       quiet = record { aside = record { rooms = record { places = c.draw.ensures.room; mark_places = refl }; marks = refl; mark_numbered = refl }; numbered = c.draw.ensures.entered };
     }
 

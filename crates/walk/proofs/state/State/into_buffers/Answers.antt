@@ -4,7 +4,7 @@ use Rattle.walk.proofs.state.State.into_buffers.Goals as goal
 pub returns : goal.returns
 unfolding view places mark_places
 returns c = record {
-  rows = c.into-buffers-rows.ensures.room;
-  links = c.into-buffers-rows.ensures.lengths.1;
-  places = (c.into-places.ensures.room, c.into-places-2.ensures.room);
+  rows = c.into_buffers-rows.ensures.room;
+  links = c.into_buffers-rows.ensures.lengths.1;
+  places = (c.into_places.ensures.room, c.into_places-2.ensures.room);
 }

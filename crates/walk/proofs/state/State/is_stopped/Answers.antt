@@ -3,4 +3,4 @@ use Rattle.walk.proofs.state.State.is_stopped.Goals as goal
 
 pub returns : goal.returns
 unfolding view
-returns c = c.is-stopped.ensures
+returns c = c.is_stopped.ensures

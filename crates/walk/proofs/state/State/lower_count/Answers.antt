@@ -2,9 +2,9 @@ use Rattle.std.proofs.Common.{◌≡◌, sym, refl, ap, ◌∙◌}
 use Rattle.walk.specs.View.{view, marks, places, numbered, mark_places, mark_numbered}
 use Rattle.walk.proofs.state.State.lower_count.Goals as goal
 
-pub overflow-sub-self : goal.overflow-sub-self
+pub overflow_sub-self : goal.overflow_sub-self
 unfolding view
-overflow-sub-self c = c.requires
+overflow_sub-self c = c.requires
 
 pub returns : goal.returns
 unfolding view marks places numbered mark_places mark_numbered

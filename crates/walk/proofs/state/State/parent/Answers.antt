@@ -6,4 +6,4 @@ use Rattle.walk.proofs.state.State.parent.Goals as goal
 
 pub returns : goal.returns
 unfolding view
-returns c = let w = c.args.self.now in parent_is (model w.book) (waiting w.queue) w.count c.args.row c.args.n c.parent-of.result c.parent-of.ensures
+returns c = let w = c.args.self.now in parent_is (model w.book) (waiting w.queue) w.count c.args.row c.args.n c.parent_of.result c.parent_of.ensures

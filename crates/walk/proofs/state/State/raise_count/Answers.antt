@@ -2,9 +2,9 @@ use Rattle.std.proofs.Common.{◌≡◌, sym, refl, ap, ◌∙◌, arith}
 use Rattle.walk.specs.View.{view, marks, places, numbered, mark_places, mark_numbered}
 use Rattle.walk.proofs.state.State.raise_count.Goals as goal
 
-pub overflow-add-self : goal.overflow-add-self
+pub overflow_add-self : goal.overflow_add-self
 unfolding view
-overflow-add-self c = let h = c.requires in omega (arith, h)
+overflow_add-self c = let h = c.requires in omega (arith, h)
 
 pub returns : goal.returns
 unfolding view marks places numbered mark_places mark_numbered

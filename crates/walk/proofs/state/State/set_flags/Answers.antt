@@ -9,4 +9,4 @@ pub returns : goal.returns
 unfolding view marks places numbered mark_places mark_numbered
 returns c =
     let w = c.args.self.now in
-    record { is = flags_set (model w.book) (model c.set-flags.new.self) (waiting w.queue) w.count c.args.row c.args.mask.bits c.requires c.set-flags.ensures.after; quiet = record { aside = record { rooms = record { places = refl; mark_places = refl }; marks = refl; mark_numbered = refl }; numbered = refl } }
+    record { is = flags_set (model w.book) (model c.set_flags.new.self) (waiting w.queue) w.count c.args.row c.args.mask.bits c.requires c.set_flags.ensures.after; quiet = record { aside = record { rooms = record { places = refl; mark_places = refl }; marks = refl; mark_numbered = refl }; numbered = refl } }

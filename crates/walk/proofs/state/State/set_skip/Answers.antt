@@ -9,4 +9,4 @@ pub returns : goal.returns
 unfolding view marks places numbered mark_places mark_numbered
 returns c =
     let w = c.args.self.now in
-    record { is = skip_set (model w.book) (model c.set-skip.new.self) (waiting w.queue) w.count c.args.row c.args.original-ttl c.args.ttl c.set-skip.ensures.after; quiet = record { aside = record { rooms = record { places = refl; mark_places = refl }; marks = refl; mark_numbered = refl }; numbered = refl } }
+    record { is = skip_set (model w.book) (model c.set_skip.new.self) (waiting w.queue) w.count c.args.row c.args.original_ttl c.args.ttl c.set_skip.ensures.after; quiet = record { aside = record { rooms = record { places = refl; mark_places = refl }; marks = refl; mark_numbered = refl }; numbered = refl } }
