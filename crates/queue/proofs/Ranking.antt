@@ -1,6 +1,5 @@
 -- The order of a heap's places is total, as the lemmas on heaps ask.
-use Rattle.std.proofs.Common.{◌≡◌, ℕ, zero, suc, ◌+◌, ◌-◌, ◌*◌, ◌/◌, ◌<◌, ◌≤◌, Bool, true, false, cond, ltb, List, [], ◌∷◌, ◌++◌, length, get_or, take, set, ℤ, Ordering, Less, Equal, Greater, sym, refl, ap, ◌∙◌, subst, arith, length-take}
-use lib.Signed.{lt_z}
+use Rattle.std.proofs.Common.{◌≡◌, ℕ, zero, suc, ◌+◌, ◌*◌, ◌<◌, ◌≤◌, Bool, true, false, cond, List, [], ◌∷◌, length, get_or, take, set, Ordering, Less, Equal, Greater, sym, refl, ap, ◌∙◌, subst, arith}
 use Rattle.std.specs.Cmp.{IsTotalOrder}
 use Rattle.std.specs.Ordering.{is_lt, ordering_reverse}
 use Rattle.std.specs.List.Sorted.{IsPermutation}
@@ -12,12 +11,11 @@ use Rattle.std.specs.List.{AllByRecursion as All}
 use Rattle.std.proofs.ByRecursion.{All-weaker}
 use Rattle.std.proofs.HeapSift.{greatest, either_child}
 use Rattle.queue.proofs.Drawn.{asym_false, chain, tied}
-use Rattle.std.proofs.lemmas.Int.{ints}
 use Rattle.std.proofs.lemmas.List.Sorted.{IsPermutation-swap}
 use Rattle.std.proofs.lemmas.List.Edits.{swap_is}
 use Rattle.std.proofs.lemmas.List.{get_or-take, length-take-le}
 use Rattle.queue.specs.declared.entry.Place.{Place}
-use Rattle.queue.specs.Order.{before, after, rank, Heaped, Topless, Chief}
+use Rattle.queue.specs.Order.{before, after, rank, Heaped, Topless}
 
 ranked : Bool → Bool → Ordering
 ranked l g = cond l Less (cond g Greater Equal)

@@ -1,17 +1,11 @@
-use Rattle.std.proofs.Common.{◌≡◌, ◌+◌, ◌-◌, ◌<◌, ◌≤◌, List, [], ◌∷◌, map, length, take, Some, vec_items, vec_len, sym, refl, ap, ◌∙◌, subst, arith, w64, SFits, to_z, of_z, rules}
-use Rattle.std.specs.List.Sorted.{IsPermutation}
+use Rattle.std.proofs.Common.{◌≡◌, ◌-◌, List, [], ◌∷◌, map, length, take, Some, vec_items, sym, refl, ap, ◌∙◌, arith}
 use Rattle.std.specs.Vec.{with_items}
-use Rattle.std.proofs.ByRecursion.{all_shuffled}
-use Rattle.std.proofs.lemmas.Int.{to_z-of_z}
-use Rattle.std.proofs.lemmas.List.{with_items_is}
 use Rattle.queue.specs.declared.entry.Entry.{Entry}
 use Rattle.queue.specs.declared.entry.Place.{Place}
 use Rattle.queue.specs.Waiting.{head, tail}
 use Rattle.queue.specs.Places.{entry}
-use Rattle.queue.specs.Order.{ordered, before, waits, Apart, Heaped}
-use Rattle.queue.specs.Queue.{waiting, held, room, entered}
-use Rattle.queue.proofs.Drawn.{drawn}
-use Rattle.queue.proofs.Ranking.{first_of}
+use Rattle.queue.specs.Order.{ordered, waits}
+use Rattle.queue.specs.Queue.{waiting, room, entered}
 use Rattle.queue.proofs.Moves.{length_tail}
 use Rattle.queue.proofs.Sound.{pulled, refill_kept}
 use Rattle.queue.proofs.queue.Queue.draw.Goals as goal

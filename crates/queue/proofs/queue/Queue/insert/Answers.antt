@@ -1,15 +1,11 @@
-use Rattle.std.proofs.Common.{◌≡◌, ℕ, ◌+◌, ◌≤◌, Bool, true, false, cond, List, ◌∷◌, length, take, vec_items, vec_len, sym, refl, ap, ◌∙◌, subst, arith, w64, to_z, of_z}
-use Rattle.std.specs.List.Sorted.{IsPermutation}
+use Rattle.std.proofs.Common.{◌≡◌, ◌+◌, List, length, take, vec_items, refl, ap, ◌∙◌, arith, w64, to_z, of_z}
 use Rattle.std.specs.Vec.{with_items}
 use Rattle.std.proofs.lemmas.Int.{to_z-of_z}
-use Rattle.std.proofs.lemmas.List.{with_items_is}
 use Rattle.queue.specs.declared.entry.Place.{Place}
 use Rattle.queue.specs.Waiting.{enter}
-use Rattle.queue.specs.Places.{entry}
 use Rattle.queue.specs.Order.{waits}
 use Rattle.queue.specs.Queue.{waiting, held, room}
 use Rattle.queue.specs.Queue as spec
-use Rattle.queue.proofs.Drawn.{entered}
 use Rattle.queue.proofs.Moves.{long, length_enter}
 use Rattle.queue.proofs.Sound.{added, numbering, refill_kept}
 use Rattle.queue.proofs.queue.Queue.insert.Goals as goal
