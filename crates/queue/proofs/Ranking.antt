@@ -1,6 +1,5 @@
 -- The order of a heap's places is total, as the lemmas on heaps ask.
-use Rattle.std.proofs.Common.{◌≡◌, ℕ, zero, suc, ◌+◌, ◌-◌, ◌*◌, ◌/◌, ◌<◌, ◌≤◌, Bool, true, false, cond, ltb, List, [], ◌∷◌, ◌++◌, length, get_or, take, set, ℤ, Ordering, Less, Equal, Greater, sym, refl, ap, ◌∙◌, subst, arith, length-take}
-use lib.Signed.{lt_z}
+use Rattle.std.proofs.Common.{◌≡◌, ℕ, zero, suc, ◌+◌, ◌*◌, ◌<◌, ◌≤◌, Bool, true, false, cond, List, [], ◌∷◌, length, get_or, take, set, Ordering, Less, Equal, Greater, sym, refl, ap, ◌∙◌, subst, arith}
 use Rattle.std.specs.Cmp.{IsTotalOrder}
 use Rattle.std.specs.Ordering.{is_lt, ordering_reverse}
 use Rattle.std.specs.List.Sorted.{IsPermutation}
@@ -10,15 +9,13 @@ use Rattle.std.specs.BinaryHeap.Sift.{ComparesAt, IsGreaterChild, SiftsUp, Sifts
 use Rattle.std.specs.BinaryHeap as std
 use Rattle.std.specs.List.{AllByRecursion as All}
 use Rattle.std.proofs.ByRecursion.{All-weaker}
-use Rattle.std.proofs.HeapSift.{greatest}
+use Rattle.std.proofs.HeapSift.{greatest, either_child}
 use Rattle.queue.proofs.Drawn.{asym_false, chain, tied}
-use Rattle.std.specs.Holes as holes
-use Rattle.std.proofs.lemmas.Int.{ints}
 use Rattle.std.proofs.lemmas.List.Sorted.{IsPermutation-swap}
 use Rattle.std.proofs.lemmas.List.Edits.{swap_is}
 use Rattle.std.proofs.lemmas.List.{get_or-take, length-take-le}
 use Rattle.queue.specs.declared.entry.Place.{Place}
-use Rattle.queue.specs.Order.{before, after, rank, answers, Heaped, Topless, Chief}
+use Rattle.queue.specs.Order.{before, after, rank, Heaped, Topless}
 
 ranked : Bool → Bool → Ordering
 ranked l g = cond l Less (cond g Greater Equal)
@@ -59,40 +56,45 @@ module _ {V : Type 0} where
   same_rank : (p q r : Place V) → (p.date ≡ q.date) × (p.order ≡ q.order) → rank p r ≡ rank q r
   same_rank p q r e = λ k. rank (record { date = e.0 k; order = e.1 k; value = p.value }) r
 
-  pub order : IsTotalOrder (answers {V = V})
+  pub order : IsTotalOrder (rank {V = V})
   unfolding ranked
   order = record {
-    cmp = rank;
-    says = λ p q r h. h;
-    flip = λ p q. flips (before q p) (before p q) (asym_false q p);
+    antisymm = λ p q. flips (before q p) (before p q) (asym_false q p);
     trans = λ p q r h g. ap (λ b. cond b Less (cond (before p r) Greater Equal)) (chain r q p (less_is (before r q) (before q r) g) (less_is (before q p) (before p q) h));
-    alike = λ p q r h. let e = equal_is (before q p) (before p q) h in same_rank p q r (tied p q e.1 e.0);
+    congr = λ p q r h. let e = equal_is (before q p) (before p q) h in same_rank p q r (tied p q e.1 e.0);
   }
 
-  pub below_is : (p q : Place V) → lt_by_cmp order p q ≡ after p q
+  pub below_is : (p q : Place V) → lt_by_cmp rank p q ≡ after p q
   unfolding ranked order
   below_is p q = is_less (before q p) (before p q)
 
-  pub told : (xs : List (Place V)) (a b : ℕ) (r : Bool) → ((d : Place V) → before (get_or xs b d) (get_or xs a d) ≡ r) → ComparesAt answers xs a b r
+  pub told : (xs : List (Place V)) (a b : ℕ) (r : Bool) → ((d : Place V) → before (get_or xs b d) (get_or xs a d) ≡ r) → ComparesAt rank xs a b r
   unfolding ranked
-  told xs a b r h = λ o d. ap is_lt (sym (o.says (get_or xs a d) (get_or xs b d) (rank (get_or xs a d) (get_or xs b d)) refl)) ∙ is_less (before (get_or xs b d) (get_or xs a d)) (before (get_or xs a d) (get_or xs b d)) ∙ h d
+  told xs a b r h = λ d. is_less (before (get_or xs b d) (get_or xs a d)) (before (get_or xs a d) (get_or xs b d)) ∙ h d
 
-  into : (xs : List (Place V)) (low n : ℕ) → IsHeapWithin after xs low n → IsHeapWithin (lt_by_cmp order) xs low n
+  -- which child is drawn first, by the test of the right one against the left one at c
+  pub left_best : (xs : List (Place V)) (j c n : ℕ) → c ≡ j * 2 + 1 → ComparesAt rank xs (c + 1) c true → IsGreaterChild rank xs j c n
+  left_best xs j c n e t = let z : c + 0 ≡ c = omega arith in subst (λ (k : ℕ). IsGreaterChild rank xs j k n) z (either_child rank order xs j c n true e t).1
+
+  pub right_best : (xs : List (Place V)) (j c n : ℕ) → c ≡ j * 2 + 1 → ComparesAt rank xs (c + 1) c false → IsGreaterChild rank xs j (c + 1) n
+  right_best xs j c n e t = (either_child rank order xs j c n false e t).1
+
+  into : (xs : List (Place V)) (low n : ℕ) → IsHeapWithin after xs low n → IsHeapWithin (lt_by_cmp rank) xs low n
   into xs low n h = λ p k d a b c f. below_is (get_or xs p d) (get_or xs k d) ∙ h p k d a b c f
 
-  out : (xs : List (Place V)) (low n : ℕ) → IsHeapWithin (lt_by_cmp order) xs low n → IsHeapWithin after xs low n
+  out : (xs : List (Place V)) (low n : ℕ) → IsHeapWithin (lt_by_cmp rank) xs low n → IsHeapWithin after xs low n
   out xs low n h = λ p k d a b c f. sym (below_is (get_or xs p d) (get_or xs k d)) ∙ h p k d a b c f
 
-  pub risen : (xs ys : List (Place V)) (j : ℕ) → SiftsUp answers xs j ys → Heaped xs j → Heaped ys (j + 1)
+  pub risen : (xs ys : List (Place V)) (j : ℕ) → SiftsUp rank xs j ys → Heaped xs j → Heaped ys (j + 1)
   unfolding SiftsUp Heaped
-  risen xs ys j rises h = out ys 0 (j + 1) (rises order (j + 1) (omega arith) (
+  risen xs ys j rises h = out ys 0 (j + 1) (rises (j + 1) (omega arith) (
     (λ p k d a b f u v. into xs 0 j h p k d (omega arith) a b (omega arith), λ p k d a b f g i. absurd (omega arith)),
     λ k d a b f. absurd (omega arith),
   ))
 
-  pub sunk : (xs ys : List (Place V)) (n : ℕ) → SiftsDown answers xs 0 n ys → Topless xs n → Heaped ys n
+  pub sunk : (xs ys : List (Place V)) (n : ℕ) → SiftsDown rank xs 0 n ys → Topless xs n → Heaped ys n
   unfolding SiftsDown Heaped Topless
-  sunk xs ys n sinks h = out ys 0 n (sinks.1 order (into xs 1 n h))
+  sunk xs ys n sinks h = out ys 0 n (sinks.1 (into xs 1 n h))
 
   -- the first is drawn before all
   pub first_of : (xs : List (Place V)) (n : ℕ) (p : Place V) → 0 < n → n ≤ length xs → p ≡ get_or xs 0 p → Heaped xs n → All (λ q. before q p ≡ false) (take n xs)
@@ -101,8 +103,8 @@ module _ {V : Type 0} where
       let ts = take n xs in
       let long : length ts ≡ n = length-take-le n xs le in
       let at : (i : ℕ) (d : Place V) → i < n → get_or ts i d ≡ get_or xs i d = λ i d f. get_or-take n xs i d f in
-      let heap : std.IsHeap order ts = λ p k d a b c f. (λ i. lt_by_cmp order (at p d (omega arith) i) (at k d (omega arith) i)) ∙ into xs 0 n h p k d a b c (omega arith) in
-      All-weaker (λ q. lt_by_cmp order p q ≡ false) (λ q. before q p ≡ false) (λ q e. sym (below_is p q) ∙ e) ts (greatest order ts p (is ∙ sym (at 0 p z)) heap)
+      let heap : std.IsHeap rank ts = λ p k d a b c f. (λ i. lt_by_cmp rank (at p d (omega arith) i) (at k d (omega arith) i)) ∙ into xs 0 n h p k d a b c (omega arith) in
+      All-weaker (λ q. lt_by_cmp rank p q ≡ false) (λ q. before q p ≡ false) (λ q e. sym (below_is p q) ∙ e) ts (greatest order ts p (is ∙ sym (at 0 p z)) heap)
 
   -- an exchange among the first n
   pub taken : (xs ys : List (Place V)) (n i j : ℕ) → i < n → j < n → n ≤ length xs → ((d : Place V) → ys ≡ set (set xs i (get_or xs j d)) j (get_or xs i d)) → IsPermutation (take n xs) (take n ys)

@@ -1,14 +1,13 @@
 -- What a queue keeps of its places, in one record.
-use Rattle.std.proofs.Common.{◌≡◌, ℕ, zero, suc, ◌+◌, ◌-◌, ◌*◌, ◌<◌, ◌≤◌, cond, eqb, ◌≢◌, List, [], ◌∷◌, map, length, get_or, take, vec_items, vec_len, sym, refl, ap, ◌∙◌, subst, ⊎_elim, arith}
+use Rattle.std.proofs.Common.{◌≡◌, ℕ, zero, suc, ◌+◌, ◌-◌, ◌<◌, ◌≤◌, cond, eqb, ◌≢◌, List, [], ◌∷◌, length, get_or, take, vec_items, sym, ap, ◌∙◌, subst, ⊎_elim, arith}
 use Rattle.std.proofs.lemmas.Bool.{cases_eq, cond-true, cond-false, eq-eqb, ne_eqb}
-use Rattle.std.specs.List.{AllByRecursion as All}
 use Rattle.std.proofs.ByRecursion.{All-get_or, All-from_get_or, all_shuffled}
 use Rattle.std.proofs.lemmas.List.{get_or-take, length-take-le, with_items_is}
 use Rattle.queue.specs.declared.entry.Place.{Place}
 use Rattle.queue.specs.declared.queue.Queue.{Queue}
 use Rattle.queue.specs.Places.{entry}
 use Rattle.queue.specs.Order.{Apart, Below, Numbered, Heaped, Heaps, ordered, waits}
-use Rattle.queue.specs.Queue.{waiting, held, room}
+use Rattle.queue.specs.Queue.{held}
 use Rattle.std.specs.List.Sorted.{IsPermutation}
 use Rattle.std.specs.Vec.{with_items}
 use Rattle.queue.specs.Waiting.{enter}
@@ -25,7 +24,7 @@ module _ {V : Type 0} where
 
   -- the ghost fields
   abbrev pub Kept : List (Place V) → ℕ → ℕ → Type 0
-  Kept ps n m = (n ≤ length ps) × ((n ≤ m) × (Heaps ps n × (Apart (take n ps) × (Numbered m ps n × Unit {0}))))
+  Kept ps n m = record { within : n ≤ length ps; few : n ≤ m; heap : Heaps ps n; apart : Apart (take n ps); numbered : Numbered m ps n }
 
   below_of : (ps : List (Place V)) (n m : ℕ) → n ≤ length ps → Numbered m ps n → Below m (take n ps)
   below_of [] zero m l h = tt
@@ -34,26 +33,20 @@ module _ {V : Type 0} where
 
   pub kept_sound : (ps : List (Place V)) (n m : ℕ) → Kept ps n m → Sound ps n m
   unfolding Heaped
-  kept_sound ps n m k = record { within = k.0; few = k.1.0; heap = λ p q d a b c f. k.1.1.0 (p, q, d) (b, c, f); apart = k.1.1.1.0; numbered = below_of ps n m k.0 k.1.1.1.1.0 }
+  kept_sound ps n m k = record { within = k.within; few = k.few; heap = λ p q d a b c f. k.heap (p, q, d) (b, c, f); apart = k.apart; numbered = below_of ps n m k.within k.numbered }
 
   pub sound_kept : (ps : List (Place V)) (n m : ℕ) → Sound ps n m → Kept ps n m
   unfolding Heaped
-  sound_kept ps n m s = (
-    s.within,
-    (
-      s.few,
-      (
-        λ w x. s.heap w.0 w.1 w.2 (omega arith) x.0 x.1 x.2,
-        (
-          s.apart,
-          (λ k d l. let l' : k < length (take n ps) = omega (arith, length-take-le n ps s.within) in subst (λ q. q.order < m) (get_or-take n ps k d l) (All-get_or (λ q. q.order < m) (take n ps) k d l' s.numbered), tt),
-        ),
-      ),
-    ),
-  )
+  sound_kept ps n m s = record {
+    within = s.within;
+    few = s.few;
+    heap = λ w x. s.heap w.0 w.1 w.2 (omega arith) x.0 x.1 x.2;
+    apart = s.apart;
+    numbered = λ k d l. let l' : k < length (take n ps) = omega (arith, length-take-le n ps s.within) in subst (λ q. q.order < m) (get_or-take n ps k d l) (All-get_or (λ q. q.order < m) (take n ps) k d l' s.numbered);
+  }
 
   pub sound_of : (q : Queue V) → Sound (vec_items q.places) q.len q.next
-  sound_of q = kept_sound _ _ _ (omega (arith, q.within, q.places.ok.0), (q.few, (q.heap, (q.apart, (q.numbered, tt)))))
+  sound_of q = kept_sound (vec_items q.places) q.len q.next (record { within = omega (arith, q.within, q.places.ok.0); few = q.few; heap = q.heap; apart = q.apart; numbered = q.numbered })
 
   -- the number of a new entry is above those of all that wait, and has not passed the counter
   pub numbering : (q : Queue V) (o : ℕ) → o ≡ cond (eqb q.len 0) 0 q.next → Below o (held q) × (q.len ≤ o) × (o ≤ q.next)

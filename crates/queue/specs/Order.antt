@@ -60,9 +60,6 @@ module _ {V : Type 0} where
   abbrev pub rank : Place V → Place V → Ordering
   rank p q = cond (before q p) Less (cond (before p q) Greater Equal)
 
-  abbrev pub answers : Place V → Place V → Ordering → Type 0
-  answers p q r = r ≡ rank p q
-
   -- no child of j among the first n is drawn before the place c
   unfoldable pub Chief : List (Place V) → ℕ → ℕ → ℕ → Type 0
-  Chief ps j c n = IsGreaterChild answers ps j c n
+  Chief ps j c n = IsGreaterChild rank ps j c n

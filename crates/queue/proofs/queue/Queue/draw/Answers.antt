@@ -1,27 +1,21 @@
-use Rattle.std.proofs.Common.{◌≡◌, ◌+◌, ◌-◌, ◌<◌, ◌≤◌, List, [], ◌∷◌, map, length, take, Some, vec_items, vec_len, sym, refl, ap, ◌∙◌, subst, arith, w64, SFits, to_z, of_z, rules}
-use Rattle.std.specs.List.Sorted.{IsPermutation}
+use Rattle.std.proofs.Common.{◌≡◌, ◌-◌, List, [], ◌∷◌, map, length, take, Some, vec_items, sym, refl, ap, ◌∙◌, arith}
 use Rattle.std.specs.Vec.{with_items}
-use Rattle.std.proofs.ByRecursion.{all_shuffled}
-use Rattle.std.proofs.lemmas.Int.{to_z-of_z}
-use Rattle.std.proofs.lemmas.List.{with_items_is}
 use Rattle.queue.specs.declared.entry.Entry.{Entry}
 use Rattle.queue.specs.declared.entry.Place.{Place}
 use Rattle.queue.specs.Waiting.{head, tail}
 use Rattle.queue.specs.Places.{entry}
-use Rattle.queue.specs.Order.{ordered, before, waits, Apart, Heaped}
-use Rattle.queue.specs.Queue.{waiting, held, room, entered}
-use Rattle.queue.proofs.Drawn.{drawn}
-use Rattle.queue.proofs.Ranking.{first_of}
+use Rattle.queue.specs.Order.{ordered, waits}
+use Rattle.queue.specs.Queue.{waiting, room, entered}
 use Rattle.queue.proofs.Moves.{length_tail}
 use Rattle.queue.proofs.Sound.{pulled, refill_kept}
 use Rattle.queue.proofs.queue.Queue.draw.Goals as goal
 
-pub invariant-of-self : goal.invariant-of-self
-invariant-of-self g c =
+pub invariant_of-self : goal.invariant_of-self
+invariant_of-self g c =
     let q = c.args.self.now in
-    let t = pulled q c.pull-top.result c.as-mut-slice.result.now c.pull-top.new.places c.if-self-eq0.false c.as-mut-slice.ensures.value c.pull-top.auto.places c.pull-top.ensures.value c.pull-top.ensures.shuffled c.pull-top.ensures.heap in
+    let t = pulled q c.pull-top.result c.as_mut_slice.result.now c.pull-top.new.places c.if-self-eq0.false c.as_mut_slice.ensures.value c.pull-top.auto.places c.pull-top.ensures.value c.pull-top.ensures.shuffled c.pull-top.ensures.heap in
     let k = refill_kept q c.pull-top.new.places (q.len - 1) q.next t.places t.sound in
-    (omega (arith, q.within), k.1)
+    record { within = omega (arith, q.within); few = k.few; heap = k.heap; apart = k.apart; numbered = k.numbered }
 
 pub returns-then-self-eq0 : goal.returns-then-self-eq0
 unfolding waiting
@@ -34,7 +28,7 @@ pub returns : goal.returns
 unfolding waiting room entered
 returns g c =
     let q = c.args.self.now in
-    let t = pulled q c.pull-top.result c.as-mut-slice.result.now c.pull-top.new.places c.if-self-eq0.false c.as-mut-slice.ensures.value c.pull-top.auto.places c.pull-top.ensures.value c.pull-top.ensures.shuffled c.pull-top.ensures.heap in
+    let t = pulled q c.pull-top.result c.as_mut_slice.result.now c.pull-top.new.places c.if-self-eq0.false c.as_mut_slice.ensures.value c.pull-top.auto.places c.pull-top.ensures.value c.pull-top.ensures.shuffled c.pull-top.ensures.heap in
     let p = c.pull-top.result in
     let last = q.len - 1 in
     let all : waiting q ≡ entry p ∷ waits (take last c.pull-top.new.places) = ap (map entry) t.all in
