@@ -1,5 +1,5 @@
 -- Lists of rows and of row numbers: find, occ, place.
-use Rattle.std.proofs.Common.{◌≡◌, ℕ, zero, suc, ◌-◌, ◌<◌, Bool, true, false, cond, eqb, ◌≢◌, ◌⊎◌, List, [], ◌∷◌, length, get_or, sym, refl, ap, ◌∙◌, subst, inl, inr, ⊎_elim, le_of_suc-le-suc, not-suc-le-zero, arith}
+use Rattle.std.proofs.Common.{◌≡◌, ℕ, zero, suc, ◌<◌, Bool, true, false, cond, eqb, ◌≢◌, ◌⊎◌, List, [], ◌∷◌, length, get_or, sym, refl, ap, ◌∙◌, subst, inl, inr, ⊎_elim, le_of_suc-le-suc, not-suc-le-zero, arith}
 use mathlib.Core.Option.{Option, none, some, some-injective, none-ne-some, some-ne-none}
 use Rattle.std.proofs.lemmas.Bool.{eqb-true, eq-eqb, ne_eqb, both_ways, and_parts, false≢true}
 use lib.Signed.{lt_z}
@@ -7,7 +7,7 @@ use Rattle.source.specs.declared.ObjectId.{ObjectId}
 use Rattle.source.specs.Ids.{is_same_id}
 use Rattle.queue.specs.declared.entry.Entry.{Entry}
 use Rattle.queue.specs.Waiting.{enter}
-use Rattle.model.specs.Book.{Waits, Row, no_row, find, bump, place}
+use Rattle.model.specs.Book.{Waits, Row, no_row, find, bump}
 use Rattle.model.specs.Past.{In}
 use Rattle.model.specs.Steady.{occ}
 use Rattle.std.specs.Str.{bytes_eq}

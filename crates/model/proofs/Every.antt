@@ -1,10 +1,9 @@
 -- Each negotiator keeps what the laws need; so every past is lawful.
-use Rattle.std.proofs.Common.{◌≡◌, ℕ, zero, suc, ◌+◌, Bool, true, false, not, ◌&&◌, ◌||◌, List, [], ◌∷◌, get_or, count_by, sym, refl, ◌∙◌, subst, inl, inr, arith}
+use Rattle.std.proofs.Common.{◌≡◌, ℕ, suc, Bool, true, false, not, ◌&&◌, ◌||◌, List, [], ◌∷◌, get_or, count_by, sym, refl, ◌∙◌, subst, inl, inr, arith}
 use Rattle.std.proofs.lemmas.List.Sums.{sum_by-cons}
 use Rattle.std.proofs.lemmas.Bool.{both_ways, false≢true}
 use Rattle.source.specs.declared.ObjectId.{ObjectId}
 use Rattle.book.specs.declared.types.Remark.{Remark}
-use Rattle.book.specs.declared.types.Remark.TheVariants as remark
 use Rattle.model.specs.declared.Algorithm.{Algorithm}
 use Rattle.model.specs.declared.Algorithm.TheVariants as algorithm
 use Rattle.model.specs.declared.Event.{Event}

@@ -1,20 +1,17 @@
 -- The laws over every past.
-use Rattle.std.proofs.Common.{◌≡◌, ℕ, ◌+◌, ◌-◌, ◌<◌, ◌≤◌, Bool, true, false, not, ◌&&◌, ◌||◌, ◌≢◌, ◌⊎◌, List, [], ◌∷◌, length, count_by, sym, refl, ap, ◌∙◌, subst, inl, inr, ⊎_elim, arith}
-use mathlib.Core.Option.{none}
+use Rattle.std.proofs.Common.{◌≡◌, ℕ, ◌+◌, ◌<◌, ◌≤◌, Bool, true, false, not, ◌&&◌, ◌||◌, ◌⊎◌, List, [], ◌∷◌, length, count_by, sym, refl, ap, ◌∙◌, subst, inl, inr, ⊎_elim, arith}
 use Rattle.std.proofs.lemmas.List.Sums.{sum_by-cons}
 use Rattle.std.proofs.lemmas.Bool.{both_ways, true≢false, false≢true}
 use Rattle.source.specs.declared.ObjectId.{ObjectId}
 use Rattle.book.specs.declared.types.Denial.{Denial}
 use Rattle.model.specs.Book.{Marks, Flags, SEEN, COMMON_REF_AND_SEEN, Row, Walk, made, row, flags_at, stop, find, Source}
 use Rattle.model.specs.Consecutive
-use Rattle.model.specs.Steps
-use Rattle.model.specs.Steps.{denied, Res, ok, no, noted, Noted, common_at}
+use Rattle.model.specs.Steps.{Res, ok, no, noted, Noted, common_at}
 use Rattle.model.specs.Consecutive.{Push, Mark, Next, Ran}
 use Rattle.model.specs.declared.Call.{Call}
 use Rattle.model.specs.declared.Call.TheVariants.{KnownCommon, AddTip, NextHave, InCommonWithRemote, Note}
 use Rattle.model.specs.declared.Reply.{Reply}
 use Rattle.model.specs.declared.Reply.TheVariants.{Done, Have, NoneLeft, Told, Denied}
-use Rattle.book.specs.declared.types.Remark.TheVariants as remark
 use Rattle.model.specs.Past
 use Rattle.model.specs.Past.{Accepted, TipOf, HaveOf, Tip, Known, Answered, Has, Parent, Reach, Covered, is_seen, is_settled}
 use Rattle.model.specs.declared.Event.{Event}

@@ -14,10 +14,9 @@ use Rattle.source.specs.Meaning.{Meaning, absent, failing, commit}
 use Rattle.book.specs.Rows
 use Rattle.book.specs.Model.{Model, looked_up, query, fresh, raised, flagged, no_entry}
 use Rattle.book.specs.Model as hm
-use Rattle.queue.specs.declared.entry.Entry.{Entry}
 use Rattle.queue.specs.Waiting.{enter}
-use Rattle.model.specs.Book.{Waits, Flags, COMMON, POPPED, join, meets, Row, no_row, reflag, Walk, row, flags_at, change, add_row, find, bump, Source, place}
-use Rattle.model.specs.Steps.{Looked, found, Lookup, held, lacks, fails, full, short, adds, taken}
+use Rattle.model.specs.Book.{Waits, Flags, COMMON, POPPED, join, meets, Row, no_row, reflag, Walk, flags_at, change, add_row, find, bump, Source}
+use Rattle.model.specs.Steps.{found, Lookup, held, lacks, fails, full, short, adds, taken}
 use Rattle.model.specs.Consecutive.{entered, waits, commoned}
 use Rattle.book.specs.Bits.{has}
 use Rattle.model.specs.Parts

@@ -1,5 +1,5 @@
 -- The flag byte of the code beside the record of flags.
-use Rattle.std.proofs.Common.{◌≡◌, ℕ, zero, suc, ◌+◌, ◌%◌, ◌<◌, Bool, true, false, not, ◌&&◌, eqb, ◌⊎◌, sym, refl, ap, ◌∙◌, subst, ⊎_elim, not-suc-le-zero, mod-lt, mod-eq_of_lt, arith, lit<}
+use Rattle.std.proofs.Common.{◌≡◌, ℕ, zero, suc, ◌%◌, ◌<◌, Bool, true, false, not, ◌&&◌, eqb, sym, refl, ap, ◌∙◌, subst, ⊎_elim, not-suc-le-zero, mod-lt, mod-eq_of_lt, arith, lit<}
 use mathlib.Core.Bool.{beq}
 use lib.Bits.{bit_and, bit_or, and_mod, or_mod, or_lt, and_le_r}
 use Rattle.std.proofs.lemmas.Bool.{and_parts, cases_eq, false≢true}

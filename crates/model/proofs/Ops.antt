@@ -1,5 +1,5 @@
 -- The single steps: what each keeps.
-use Rattle.std.proofs.Common.{◌≡◌, ℕ, zero, suc, ◌+◌, ◌-◌, ◌<◌, ◌≤◌, Bool, true, false, cond, not, ◌&&◌, ◌||◌, ◌≢◌, ◌⊎◌, [], ◌∷◌, length, sym, refl, ap, ◌∙◌, subst, inl, inr, ⊎_elim, arith}
+use Rattle.std.proofs.Common.{◌≡◌, ℕ, zero, suc, ◌+◌, ◌-◌, ◌<◌, ◌≤◌, Bool, true, false, cond, not, ◌&&◌, ◌||◌, ◌⊎◌, [], ◌∷◌, length, sym, refl, ap, ◌∙◌, subst, inl, inr, ⊎_elim, arith}
 use Rattle.std.proofs.lemmas.List.Sums.{get_or-le-sum_by}
 use Rattle.std.proofs.lemmas.Bool.{cases_eq, both_ways, true≢false, false≢true, cond_both}
 use Rattle.source.specs.declared.ObjectId.{ObjectId}
@@ -8,7 +8,7 @@ use Rattle.book.specs.declared.types.Remark.TheVariants as remark
 use Rattle.source.specs.Meaning.{absent, commit}
 use Rattle.queue.specs.declared.entry.Entry.{Entry}
 use Rattle.model.specs.Book.{Waits, Flags, SEEN, COMMON, POPPED, COMMON_REF_AND_SEEN, COMMON_AND_SEEN, COMPLETE, ALTERNATE, join, meets, Row, no_row, Walk, row, flags_at, change, drawn, Source, place}
-use Rattle.model.specs.Steps.{found, nothing, Lookup, held, lacks, short, adds, taken, noted}
+use Rattle.model.specs.Steps.{found, nothing, Lookup, held, lacks, adds, taken, noted}
 use Rattle.model.specs.Consecutive.{entered, waits, commoned}
 use Rattle.model.specs.Past.{Has}
 use Rattle.model.proofs.Basics.{occ_head, occ_skip, occ_enter, occ_enter_other, length_enter, find_some}

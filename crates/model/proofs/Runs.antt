@@ -1,15 +1,14 @@
 -- Whole runs: marking, pushing, passing on, the draws of next.
-use Rattle.std.proofs.Common.{◌≡◌, ℕ, ◌+◌, ◌-◌, ◌<◌, Bool, true, false, not, ◌≢◌, ◌⊎◌, List, [], ◌∷◌, length, ℤ, sym, refl, ap, ◌∙◌, subst, inl, inr, ⊎_elim, arith}
+use Rattle.std.proofs.Common.{◌≡◌, ℕ, ◌+◌, ◌<◌, Bool, true, false, ◌⊎◌, List, [], ◌∷◌, length, ℤ, sym, refl, ap, ◌∙◌, subst, inl, inr, ⊎_elim, arith}
 use mathlib.Core.Option.{Option, none, some}
 use Rattle.std.proofs.lemmas.Bool.{both_ways, false≢true, or_cases}
 use Rattle.source.specs.declared.ObjectId.{ObjectId}
 use Rattle.source.specs.Meaning.{Meaning, absent, failing, commit}
 use Rattle.queue.specs.declared.entry.Entry.{Entry}
 use Rattle.model.specs.declared.Step.{Step}
-use Rattle.model.specs.Book.{Waits, Marks, Flags, SEEN, COMMON, POPPED, COMMON_REF_AND_SEEN, COMMON_AND_SEEN, Row, Walk, row, flags_at, drawn, stop, find, Source}
+use Rattle.model.specs.Book.{Waits, Marks, Flags, SEEN, COMMON_REF_AND_SEEN, COMMON_AND_SEEN, Row, Walk, row, flags_at, drawn, stop, find, Source}
 use Rattle.model.specs.Consecutive
-use Rattle.model.specs.Steps
-use Rattle.model.specs.Steps.{found, Lookup, held, lacks, adds, Res, ok, no, sees, sees_at, taken}
+use Rattle.model.specs.Steps.{found, Lookup, held, adds, Res, ok, no, sees, sees_at, taken}
 use Rattle.model.specs.Consecutive.{entered, Push, commoned, Marking, Mark, PushUnseen, passed_on, Pass, passes_both, Next}
 use Rattle.model.specs.declared.Reply.{Reply}
 use Rattle.model.specs.declared.Reply.TheVariants.{Done, Have, NoneLeft, Told, Denied}

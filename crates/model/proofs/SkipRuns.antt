@@ -1,5 +1,5 @@
 -- Whole runs of the skipping walk: marking, adding, handing on, the draws of next.
-use Rattle.std.proofs.Common.{◌≡◌, ℕ, ◌+◌, ◌-◌, Bool, true, false, not, ◌||◌, eqb, List, [], sym, refl, ap, ◌∙◌, subst}
+use Rattle.std.proofs.Common.{◌≡◌, ℕ, Bool, true, false, not, ◌||◌, eqb, List, [], sym, refl, ap, ◌∙◌, subst}
 use Rattle.std.proofs.lemmas.Bool.{both_ways, false≢true, and_parts}
 use Rattle.source.specs.declared.ObjectId.{ObjectId}
 use Rattle.model.specs.declared.Reply.{Reply}

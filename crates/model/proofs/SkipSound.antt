@@ -1,5 +1,5 @@
 -- What the skipping functions, and noop's, compute is a run of the relations.
-use Rattle.std.proofs.Common.{◌≡◌, ℕ, zero, suc, ◌+◌, ◌<◌, Bool, true, false, ◌||◌, eqb, List, [], ◌∷◌, refl, subst, arith}
+use Rattle.std.proofs.Common.{◌≡◌, ℕ, zero, suc, ◌<◌, Bool, true, false, ◌||◌, eqb, List, [], ◌∷◌, refl, subst, arith}
 use mathlib.Core.Option.{Option, none, some, none-ne-some}
 use Rattle.std.proofs.lemmas.Bool.{eqb-true, eqb-false}
 use Rattle.source.specs.declared.ObjectId.{ObjectId}

@@ -10,7 +10,7 @@ use Rattle.model.specs.declared.Call.{Call}
 use Rattle.model.specs.declared.Call.TheVariants.{KnownCommon, AddTip, NextHave, InCommonWithRemote, Note}
 use Rattle.model.specs.declared.Reply.{Reply}
 use Rattle.model.specs.declared.Reply.TheVariants.{Done, Have, NoneLeft, Told, Denied}
-use Rattle.model.specs.Book.{Row, Walk, made, row, Source}
+use Rattle.model.specs.Book.{Row, Walk, made, Source}
 use Rattle.model.specs.Consecutive
 use Rattle.model.specs.Skipping
 use Rattle.model.specs.Noop

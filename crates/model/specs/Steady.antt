@@ -1,5 +1,5 @@
 -- What each step keeps: the tally, the queue, and why a row has its flags.
-use Rattle.std.specs.Prelude.{◌≡◌, ℕ, ◌+◌, ◌-◌, ◌<◌, ◌≤◌, Bool, true, false, cond, not, ◌&&◌, ◌⊎◌, [], ◌∷◌, length, count_by, ◌==◌}
+use Rattle.std.specs.Prelude.{◌≡◌, ℕ, ◌+◌, ◌<◌, ◌≤◌, Bool, true, false, cond, not, ◌&&◌, ◌⊎◌, [], ◌∷◌, length, count_by, ◌==◌}
 use Rattle.source.specs.declared.ObjectId.{ObjectId}
 use Rattle.source.specs.Meaning.{absent, commit}
 use Rattle.model.specs.Book.{Flags, Row, Waits, Marks, Walk, row, flags_at, Source}

@@ -1,5 +1,5 @@
 -- What a negotiator's type says of its state, kept by the state's steps. P speaks of the walk, of the queue's numbers and places, and of the marking places.
-use Rattle.std.proofs.Common.{◌≡◌, ℕ, ◌+◌, ◌≤◌, min, Err, vec_len, sym, refl, ap, ◌∙◌, subst, inl, inr, arith}
+use Rattle.std.proofs.Common.{◌≡◌, ℕ, ◌≤◌, min, Err, vec_len, sym, refl, ◌∙◌, subst, inl, inr, arith}
 use mathlib.Core.Logic.{∥∥₁_elim, ∥∥₁_map}
 use native.Mathlib.Bridge.{le_prop}
 use Rattle.source.specs.declared.ObjectId.{ObjectId}
@@ -14,10 +14,10 @@ use Rattle.model.specs.Past.{does, Called}
 use Rattle.model.specs.Steady.{Fit}
 use Rattle.model.proofs.Calls.{begun_fit, note_fit}
 use Rattle.model.proofs.Fits.{looks_fit}
-use Rattle.walk.specs.Made.{most_rows, Returned}
+use Rattle.walk.specs.Made.{Returned}
 use Rattle.walk.specs.declared.state.making.Buffers.{Buffers}
 use Rattle.walk.specs.declared.state.State.{State}
-use Rattle.walk.specs.View.{view, marks, numbered, places, mark_numbered, mark_places, Roomy, Aside, Quiet}
+use Rattle.walk.specs.View.{view, numbered, places, mark_places, Roomy, Aside, Quiet}
 
 abbrev pub Fits : (Walk → ℕ → ℕ → ℕ → Type 0) → State → Type 0
 Fits P s = ∥ P (view s) (numbered s) (places s) (mark_places s) ∥₁

@@ -1,5 +1,5 @@
 -- A note, under every negotiator.
-use Rattle.std.proofs.Common.{◌≡◌, ℕ, Bool, true, false, cond, get_or, Some, None, Ok, Err, Option, Result, sym, refl, ap, ◌∙◌, subst, inl, inr}
+use Rattle.std.proofs.Common.{◌≡◌, ℕ, Bool, true, false, cond, get_or, Some, None, Ok, Err, Option, Result, sym, refl, subst, inl, inr}
 use Rattle.source.specs.declared.ObjectId.{ObjectId}
 use Rattle.book.specs.declared.types.Denial.{Denial}
 use Rattle.book.specs.declared.types.Denial.TheVariants as denial

@@ -1,5 +1,5 @@
 -- A state as the rules see it, and what they do not see: the room and the numbers of the two queues.
-use Rattle.std.specs.Prelude.{◌≡◌, ℕ, Bool, true, false, ◌||◌, List, [], ◌∷◌, Some, None, Option, ◌==◌}
+use Rattle.std.specs.Prelude.{◌≡◌, ℕ, Bool, ◌||◌, [], ◌∷◌, Some, None, Option, ◌==◌}
 use Rattle.std.proofs.Math.Option as model-option
 use Rattle.book.specs.Model.{model}
 use Rattle.queue.specs.declared.entry.Entry.{Entry}

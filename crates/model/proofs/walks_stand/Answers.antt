@@ -3,4 +3,4 @@ use Rattle.model.proofs.walks_stand.Goals as goal
 
 pub returns : goal.returns
 returns c =
-    record { chain = walk_chain; waits = walk_waits; lost = walk_lost; known = walk_known; merge = walk_merge; full = walk_full; near = walk_near; near-told = walk_near_told; lost-told = walk_lost_told; dates = walk_dates; skips = walk_skips; skip-told = walk_skip_told; pins = walk_pins; edge = walk_edge; noop = walk_noop }
+    record { chain = walk_chain; waits = walk_waits; lost = walk_lost; known = walk_known; merge = walk_merge; full = walk_full; near = walk_near; near_told = walk_near_told; lost_told = walk_lost_told; dates = walk_dates; skips = walk_skips; skip_told = walk_skip_told; pins = walk_pins; edge = walk_edge; noop = walk_noop }

@@ -1,4 +1,4 @@
-use Rattle.std.proofs.Common.{◌≡◌, sym, refl, ap, ◌∙◌}
+use Rattle.std.proofs.Common.{refl}
 use Rattle.walk.specs.View.{view, marks, places, numbered, mark_places, mark_numbered}
 use Rattle.walk.proofs.state.State.clear_marks.Goals as goal
 

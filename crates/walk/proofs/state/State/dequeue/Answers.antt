@@ -1,5 +1,5 @@
 use Rattle.book.specs.Model.{model}
-use Rattle.std.proofs.Common.{◌≡◌, sym, refl, ap, ◌∙◌}
+use Rattle.std.proofs.Common.{refl}
 use Rattle.walk.proofs.Views.{drew_none, drew_some}
 use Rattle.walk.specs.View.{view, marks, places, numbered, mark_places, mark_numbered}
 use Rattle.walk.proofs.state.State.dequeue.Goals as goal

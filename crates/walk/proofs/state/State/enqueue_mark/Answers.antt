@@ -1,5 +1,5 @@
 use Rattle.model.specs.declared.Step.{Step}
-use Rattle.std.proofs.Common.{◌≡◌, sym, refl, ap, ◌∙◌, w64, SFits, rules}
+use Rattle.std.proofs.Common.{refl, w64, SFits, rules}
 use Rattle.std.proofs.lemmas.Int.{to_z-of_z}
 use Rattle.book.specs.Model.{model}
 use Rattle.queue.specs.Queue.{waiting}

@@ -1,6 +1,6 @@
 use Rattle.book.specs.Model.{model}
 use Rattle.walk.proofs.Views.{find_is}
-use Rattle.walk.specs.View.{view, marks, places, numbered, mark_places, mark_numbered}
+use Rattle.walk.specs.View.{view}
 use Rattle.walk.proofs.state.State.find.Goals as goal
 
 pub returns : goal.returns

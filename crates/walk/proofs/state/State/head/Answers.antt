@@ -1,8 +1,8 @@
-use Rattle.std.proofs.Common.{◌≡◌, sym, refl, ap, ◌∙◌}
+use Rattle.std.proofs.Common.{sym}
 use Rattle.book.specs.Model.{model}
 use Rattle.queue.specs.Queue.{waiting}
 use Rattle.model.proofs.Moves.{head_flags, head_date, head_parents}
-use Rattle.walk.specs.View.{view, marks, places, numbered, mark_places, mark_numbered}
+use Rattle.walk.specs.View.{view}
 use Rattle.walk.proofs.state.State.head.Goals as goal
 
 pub returns : goal.returns

@@ -1,5 +1,5 @@
-use Rattle.std.proofs.Common.{◌≡◌, sym, refl, ap, ◌∙◌}
-use Rattle.walk.specs.View.{view, marks, places, numbered, mark_places, mark_numbered}
+use Rattle.std.proofs.Common.{refl}
+use Rattle.walk.specs.View.{view}
 use Rattle.walk.proofs.state.State.is_spent.Goals as goal
 
 pub returns : goal.returns

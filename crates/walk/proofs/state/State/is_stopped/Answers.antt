@@ -1,4 +1,4 @@
-use Rattle.walk.specs.View.{view, marks, places, numbered, mark_places, mark_numbered}
+use Rattle.walk.specs.View.{view}
 use Rattle.walk.proofs.state.State.is_stopped.Goals as goal
 
 pub returns : goal.returns

@@ -1,4 +1,4 @@
-use Rattle.std.proofs.Common.{◌≡◌, ℕ, min, vec_len, sym, refl, ap, ◌∙◌, rules}
+use Rattle.std.proofs.Common.{◌≡◌, ℕ, min, vec_len, ap, ◌∙◌, rules}
 use Rattle.book.specs.Model.{model}
 use Rattle.queue.specs.Queue.{waiting}
 use Rattle.model.specs.Book.{made}

@@ -1,7 +1,7 @@
 use Rattle.book.specs.Model.{model}
 use Rattle.queue.specs.Queue.{waiting}
 use Rattle.walk.proofs.Views.{parent_is}
-use Rattle.walk.specs.View.{view, marks, places, numbered, mark_places, mark_numbered}
+use Rattle.walk.specs.View.{view}
 use Rattle.walk.proofs.state.State.parent.Goals as goal
 
 pub returns : goal.returns

@@ -1,4 +1,4 @@
-use Rattle.std.proofs.Common.{◌≡◌, sym, refl, ap, ◌∙◌, arith}
+use Rattle.std.proofs.Common.{refl, arith}
 use Rattle.walk.specs.View.{view, marks, places, numbered, mark_places, mark_numbered}
 use Rattle.walk.proofs.state.State.raise_count.Goals as goal
 

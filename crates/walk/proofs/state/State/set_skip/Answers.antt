@@ -1,4 +1,4 @@
-use Rattle.std.proofs.Common.{◌≡◌, sym, refl, ap, ◌∙◌}
+use Rattle.std.proofs.Common.{refl}
 use Rattle.book.specs.Model.{model}
 use Rattle.queue.specs.Queue.{waiting}
 use Rattle.walk.proofs.Views.{skip_set}

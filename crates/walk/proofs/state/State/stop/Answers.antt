@@ -1,4 +1,4 @@
-use Rattle.std.proofs.Common.{◌≡◌, sym, refl, ap, ◌∙◌}
+use Rattle.std.proofs.Common.{refl, ap}
 use Rattle.book.specs.Model.{Model}
 use Rattle.queue.specs.Queue.{waiting}
 use Rattle.model.specs.View.{walk_of}
