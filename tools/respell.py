@@ -107,7 +107,7 @@ def main():
     for path, text in texts.items():
         answers = os.path.basename(path) in ("Answers.antt", "Invariants.antt", "Proof.antt")
         # A plain word, as `all`, is also a variable elsewhere: it changes only in the file that declares it.
-        mine = {n: w for n, w in table.items() if not re.fullmatch(r"[a-z]+", n) or n in TOP.findall(text)}
+        mine = {n: w for n, w in table.items() if not re.fullmatch(r"[a-z]+", n) or re.search(rf"^(?:abbrev )?(?:pub )?{n} : [^\n]*→ Type 0$", text, re.M)}
         new = respell(path, text, mine, goals, members, answers)
         if new != text:
             with open(path, "w", encoding="utf-8") as f:

@@ -1,15 +1,15 @@
 -- A push at a row, and COMMON set at a row: what the code's steps need, and what they leave.
-use Rattle.std.proofs.Common.{◌≡◌, ℕ, ◌+◌, ◌-◌, ◌^◌, ◌<◌, ◌≤◌, Bool, true, false, cond, length, sym, refl, ap, ◌∙◌, subst, arith}
+use Rattle.std.proofs.Common.{◌≡◌, ℕ, ◌+◌, ◌-◌, ◌^◌, ◌<◌, ◌≤◌, true, false, cond, length, sym, refl, ap, ◌∙◌, subst, arith}
 use lib.Bits.{bit_or}
 use Rattle.book.specs.Bits.{has}
 use Rattle.model.specs.Book.{Walk, COMMON, join, meets, flags_at, change, drawn, recount, place}
-use Rattle.model.specs.Consecutive.{entered, commoned, waits}
+use Rattle.model.specs.Consecutive.{entered, waits}
 use Rattle.model.specs.View.{unpack, Admits}
 use Rattle.model.specs.Steady.{Fit}
 use Rattle.model.proofs.Fits.{admit_fit, admit_quiet, common_fit}
 use Rattle.walk.specs.declared.state.State.{State}
 use Rattle.walk.specs.View.{view, numbered, places, mark_places, Aside, Quiet}
-use Rattle.walk.proofs.Keeps.{Fits, fits_le, fits_step, fits_quiet, aside_trans, rooms_trans, quiet_trans}
+use Rattle.walk.proofs.Keeps.{Fits, fits_le, fits_step, fits_quiet, aside_trans, quiet_trans}
 use Rattle.consecutive.proofs.Steps.{admits_mask, meets_is, admitted_no, admitted_yes, commoned_is}
 
 module _ (s t : State) (k mask f : ℕ) (F : Fits Fit s) (l : k < length (view s).rows) (ad : Admits mask (flags_at (view s) k)) (e : unpack f ≡ flags_at (view s) k)

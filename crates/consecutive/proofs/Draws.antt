@@ -1,8 +1,7 @@
 -- A row drawn from the queue, which becomes POPPED.
-use Rattle.std.proofs.Common.{◌≡◌, ℕ, ◌+◌, ◌-◌, ◌<◌, ◌≤◌, Bool, true, false, cond, not, [], ◌∷◌, length, Some, None, sym, refl, ap, ◌∙◌, subst, arith}
+use Rattle.std.proofs.Common.{◌≡◌, ℕ, ◌-◌, ◌<◌, Bool, cond, not, length, Some, None, sym, ap, ◌∙◌, subst, arith}
 use Rattle.model.specs.declared.Reply.TheVariants.{NoneLeft}
-use Rattle.model.specs.declared.Turn.{Turn}
-use Rattle.model.specs.Book.{Source, Walk, Flags, Waits, POPPED, join, row, flags_at, change, drawn, recount}
+use Rattle.model.specs.Book.{Source, Walk, Flags, POPPED, join, flags_at, change, recount}
 use Rattle.model.specs.Steps.{taken}
 use Rattle.model.specs.Consecutive as steps
 use Rattle.model.specs.Consecutive.{passes_both}

@@ -1,5 +1,5 @@
 -- What waits to be marked from, held by the rows with COMMON.
-use Rattle.std.proofs.Common.{◌≡◌, ℕ, ◌+◌, ◌≤◌, length, sym, ap, subst, arith}
+use Rattle.std.proofs.Common.{ℕ, ◌+◌, ◌≤◌, length, sym, ap, subst, arith}
 use Rattle.model.specs.Book.{Marks}
 use Rattle.model.specs.Steady.{Held, Ext, common_rows}
 use Rattle.model.proofs.Fits.{held_ext}

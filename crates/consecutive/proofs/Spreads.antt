@@ -1,5 +1,5 @@
 -- A row that a lookup found gains COMMON and waits to be marked from.
-use Rattle.std.proofs.Common.{◌≡◌, ℕ, ◌+◌, ◌-◌, ◌^◌, ◌<◌, ◌≤◌, Bool, true, false, cond, [], ◌∷◌, length, Ok, sym, refl, ap, ◌∙◌, subst, inl, arith}
+use Rattle.std.proofs.Common.{◌≡◌, ℕ, ◌+◌, ◌-◌, ◌^◌, ◌<◌, ◌≤◌, Bool, false, cond, [], ◌∷◌, length, Ok, sym, refl, ap, ◌∙◌, subst, inl, arith}
 use Rattle.queue.specs.declared.entry.Entry.{Entry}
 use Rattle.source.specs.declared.ObjectId.{ObjectId}
 use Rattle.queue.specs.Waiting.{enter}
@@ -13,7 +13,7 @@ use Rattle.model.specs.Steady.{Fit, Held, Ext, common_rows}
 use Rattle.model.proofs.Fits.{lookup_ext, commons_le, commons_most, held_drawn, held_alone}
 use Rattle.model.proofs.Moves.{spread_gains, gains_held, gains_ext, gains_room, gains_pays}
 use Rattle.walk.specs.declared.state.State.{State}
-use Rattle.walk.specs.View.{view, marks, numbered, places, mark_numbered, mark_places, Aside, Quiet}
+use Rattle.walk.specs.View.{view, marks, mark_numbered, mark_places}
 use Rattle.walk.proofs.Keeps.{Fits, fits_le}
 use Rattle.consecutive.proofs.Steps.{mark_placed}
 

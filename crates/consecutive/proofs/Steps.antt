@@ -1,5 +1,5 @@
 -- The code's small steps put together to the rules' steps.
-use Rattle.std.proofs.Common.{◌≡◌, ℕ, ◌+◌, ◌-◌, ◌<◌, ◌≤◌, Bool, true, false, cond, ◌⊎◌, List, length, get_or, ℤ, sym, refl, ap, ◌∙◌, subst, inl, inr}
+use Rattle.std.proofs.Common.{◌≡◌, ℕ, ◌+◌, ◌-◌, ◌<◌, Bool, true, false, cond, List, length, get_or, ℤ, sym, ap, ◌∙◌, inl, inr}
 use lib.Bits.{bit_or}
 use Rattle.source.specs.declared.ObjectId.{ObjectId}
 use Rattle.book.specs.Rows.{no_id}
@@ -7,7 +7,6 @@ use Rattle.model.specs.Steady.{Ext}
 use Rattle.std.proofs.lemmas.Bool.{cond-true, cond-false}
 use Rattle.queue.specs.Waiting.{enter}
 use Rattle.book.specs.Bits.{has}
-use Rattle.model.specs.declared.Step.{Step}
 use Rattle.model.specs.Book.{Waits, Marks, Flags, COMMON, POPPED, join, meets, Row, Walk, row, flags_at, change, drawn, recount, place, place_mark}
 use Rattle.model.specs.Steps.{taken}
 use Rattle.model.specs.Consecutive.{entered, waits, commoned}

@@ -29,6 +29,6 @@ itself AncestorsOnly = false
 itself ThisCommitAndAncestors = true
 
 -- whether it reaches all ancestors, and not only two generations
-abbrev pub AllBelow : Ancestors → Bool
-AllBelow DirectUnseen = false
-AllBelow AllUnseen = true
+abbrev pub all : Ancestors → Bool
+all DirectUnseen = false
+all AllUnseen = true

@@ -1,4 +1,3 @@
-use Rattle.std.proofs.Common.{refl}
 use Rattle.consecutive.proofs.Admits.{no_is, no_fits, space, number, count, yes_is, yes_aside, yes_fits}
 use Rattle.consecutive.proofs.Algorithm.admit.Goals as goal
 
@@ -25,8 +24,10 @@ raise_count-requires c =
     c.enqueue.new.self c.enqueue.new.self _ c.if-intersects.ensures c.enqueue.ensures.aside c.enqueue.ensures.is c.enqueue.ensures.number _ c.union.ensures c.uncommon.ensures
 
 pub invariant_of-self-2 : goal.invariant_of-self-2
-invariant_of-self-2 c = record { fit = yes_fits c.args.self.now.state _ _ _ c.head.result.flags.bits c.args.self.now.fit c.requires.inside c.requires.admits c.head.ensures.flags c.set_flags.ensures.quiet c.set_flags.ensures.is
-      c.enqueue.new.self _ _ c.if-intersects.ensures c.enqueue.ensures.aside c.enqueue.ensures.is c.enqueue.ensures.number _ c.union.ensures c.uncommon.ensures c.raise_count.ensures.quiet c.raise_count.ensures.is }
+invariant_of-self-2 c = record {
+  fit = yes_fits c.args.self.now.state _ _ _ c.head.result.flags.bits c.args.self.now.fit c.requires.inside c.requires.admits c.head.ensures.flags c.set_flags.ensures.quiet c.set_flags.ensures.is
+      c.enqueue.new.self _ _ c.if-intersects.ensures c.enqueue.ensures.aside c.enqueue.ensures.is c.enqueue.ensures.number _ c.union.ensures c.uncommon.ensures c.raise_count.ensures.quiet c.raise_count.ensures.is;
+}
 
 pub returns : goal.returns
 returns c =

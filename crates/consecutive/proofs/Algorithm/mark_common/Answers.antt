@@ -1,4 +1,4 @@
-use Rattle.std.proofs.Common.{◌≡◌, ℕ, ◌<◌, true, false, [], length, Some, None, Ok, Err, Result, sym, refl, ap, ◌∙◌, subst}
+use Rattle.std.proofs.Common.{◌≡◌, ◌<◌, false, [], length, Some, None, Ok, Err, Result, sym, ap, ◌∙◌, subst}
 use Rattle.std.proofs.lemmas.Result.{err_from_is_err_and}
 use Rattle.book.specs.declared.types.Denial.{Denial}
 use Rattle.model.specs.Book.{Flags, Walk, flags_at}
@@ -20,7 +20,7 @@ returns-in_err-row g c =
     let w = c.args.self.now in
     let t = walk c.lookup.new.self in
     let l = c.in_err-row.ensures.is in
-    let p = err_from_is_err_and c.from-residual.result c.from-residual.ensures.1 in
+    let p = err_from_is_err_and c.from_residual.result c.from_residual.ensures.1 in
     record {
       is = subst (λ (r : Result (Unit {0}) Denial). Mark src (itself c.args.mode) (all c.args.ancestors) c.args.id (walk w) (ended r t)) (sym (p.1 ∙ ap (λ (x : Denial). Err x) p.2)) (mark_err src (itself c.args.mode) (all c.args.ancestors) c.args.id (walk w) t _ l);
       grows = looks_ext src (walk w) c.args.id t (Err c.in_err-row.field-0.0) l;

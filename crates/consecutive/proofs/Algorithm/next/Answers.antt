@@ -1,4 +1,4 @@
-use Rattle.std.proofs.Common.{◌≡◌, ℕ, ◌≤◌, length, Err, Option, Result, sym, refl, ap, ◌∙◌, subst, arith}
+use Rattle.std.proofs.Common.{◌≡◌, ℕ, ◌≤◌, length, Err, Option, Result, sym, ap, ◌∙◌, subst, arith}
 use Rattle.std.proofs.lemmas.Result.{err_from_is_err_and}
 use Rattle.book.specs.declared.types.Denial.{Denial}
 use Rattle.model.specs.declared.Reply.TheVariants.{Have, Denied}
@@ -25,7 +25,7 @@ returns-in_err-pass g c =
     let r = c.in-Some.turn in
     let T = c.in-Some.ensures.is in
     let d = c.in_err-pass.field-0.0 in
-    let p = err_from_is_err_and c.from-residual.result c.from-residual.ensures.1 in
+    let p = err_from_is_err_and c.from_residual.result c.from_residual.ensures.1 in
     let n = c.loop-turn.invariant (Denied d) z (next_stops src u v r T z d (same u v r T c.draw_row.ensures.grows) c.in_err-pass.ensures.is) in
     record { is = subst (λ (x : Result (Option ℕ) Denial). Next src (walk c.args.self.now) (haves x) z) (sym (p.1 ∙ ap (λ (x : Denial). Err x) p.2)) n }
 

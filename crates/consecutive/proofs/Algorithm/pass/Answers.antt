@@ -1,4 +1,4 @@
-use Rattle.std.proofs.Common.{◌≡◌, Bool, List, [], drop, Ok, Err, Result, sym, refl, ap, ◌∙◌, subst, arith}
+use Rattle.std.proofs.Common.{◌≡◌, List, [], drop, Ok, Err, Result, sym, ap, ◌∙◌, subst, arith}
 use Rattle.std.proofs.lemmas.Result.{err_from_is_err_and}
 use Rattle.book.specs.declared.types.Denial.{Denial}
 use Rattle.std.proofs.lemmas.List.{drop_all}
@@ -22,7 +22,7 @@ returns-in_err-pass_one g c =
     let v = walk c.pass_one.new.self in
     let i = c.loop-n.invariant in
     let d = c.in_err-pass_one.field-0.0 in
-    let p = err_from_is_err_and c.from-residual.result c.from-residual.ensures.1 in
+    let p = err_from_is_err_and c.from_residual.result c.from_residual.ensures.1 in
     let pe = parent_then (walk w) u c.args.row c.loop-n.n c.parent-parent.result i.0 c.requires.inside c.parent-parent.ensures in
     let h = subst (λ (y : ObjectId). PassedOne src c.args.both y u (Err d) v) pe c.in_err-pass_one.ensures.is in
     let m = i.1 (no d v) (pass_stop src c.args.both (parents_at w c.args.row) c.loop-n.n no_id u v d (omega (arith, c.loop-n-test.true, c.head-count.ensures.parents)) h) in

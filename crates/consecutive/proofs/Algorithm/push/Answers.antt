@@ -1,4 +1,4 @@
-use Rattle.std.proofs.Common.{◌≡◌, Some, None, Ok, Err, Result, sym, ap, ◌∙◌, subst}
+use Rattle.std.proofs.Common.{Some, None, Ok, Err, Result, sym, ap, ◌∙◌, subst}
 use Rattle.std.proofs.lemmas.Result.{err_from_is_err_and}
 use Rattle.book.specs.declared.types.Denial.{Denial}
 use Rattle.model.specs.Book.{Walk}
@@ -19,7 +19,7 @@ returns-in_err-row g c =
     let s = walk c.args.self.now in
     let t = walk c.lookup.new.self in
     let l = c.in_err-row.ensures.is in
-    let p = err_from_is_err_and c.from-residual.result c.from-residual.ensures.1 in
+    let p = err_from_is_err_and c.from_residual.result c.from_residual.ensures.1 in
     record {
       is = subst (λ (r : Result (Unit {0}) Denial). Push src (unpack c.args.mask.bits) c.args.id s (ended r t)) (sym (p.1 ∙ ap (λ (x : Denial). Err x) p.2)) (push_err src (unpack c.args.mask.bits) c.args.id s t _ l);
       grows = looks_ext src s c.args.id t (Err c.in_err-row.field-0.0) l;

@@ -1,4 +1,4 @@
-use Rattle.std.proofs.Common.{◌≡◌, Bool, sym, refl, subst, inl, inr}
+use Rattle.std.proofs.Common.{Bool, sym, refl, subst, inl, inr}
 use Rattle.model.specs.Consecutive as steps
 use Rattle.model.specs.Consecutive.{Push, passed_on}
 use Rattle.model.specs.Parts.{ended}

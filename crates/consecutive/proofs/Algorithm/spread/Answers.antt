@@ -1,4 +1,4 @@
-use Rattle.std.proofs.Common.{◌≡◌, ℕ, ◌-◌, ◌≤◌, [], length, Ok, Err, Result, sym, refl, ap, ◌∙◌, subst, arith}
+use Rattle.std.proofs.Common.{ℕ, ◌≤◌, [], Err, Result, sym, ap, ◌∙◌, subst, arith}
 use Rattle.std.proofs.lemmas.Result.{err_from_is_err_and}
 use Rattle.book.specs.declared.types.Denial.{Denial}
 use Rattle.model.specs.Book.{Marks, Walk}
@@ -6,10 +6,10 @@ use Rattle.model.specs.Steps.{ok, no}
 use Rattle.model.specs.Consecutive as steps
 use Rattle.model.specs.Consecutive.{Marking}
 use Rattle.model.specs.Parts.{ended}
-use Rattle.model.specs.Steady.{Fit, Ext, Held, common_rows}
+use Rattle.model.specs.Steady.{Fit, Ext, common_rows}
 use Rattle.model.proofs.Fits.{held_more, commons_rows}
 use Rattle.model.proofs.Good.{ext_trans}
-use Rattle.walk.specs.View.{view, mark_numbered}
+use Rattle.walk.specs.View.{mark_numbered}
 use Rattle.walk.proofs.Keeps.{fits_le, fits_same}
 use Rattle.consecutive.specs.Seen.{walk, marks, all}
 use Rattle.consecutive.proofs.Spreads.{drawn_held, undrawn, drawn_less}
@@ -34,7 +34,7 @@ returns-in_err-visit g c =
     let d = c.in-Some.ensures.is in
     let reach = all c.args.ancestors in
     let denial = c.in_err-visit.field-0.0 in
-    let p = err_from_is_err_and c.from-residual.result c.from-residual.ensures.1 in
+    let p = err_from_is_err_and c.from_residual.result c.from_residual.ensures.1 in
     let m : (n : ℕ) → Marking src reach n [] (marks w) (walk w) (no denial (walk v)) = i.2 (no denial (walk v)) (λ n. undrawn u.state c.dequeue_mark.new.self d.0 c.in-Some.step d.1 d.2 c.dequeue_mark.ensures.same src reach n (no denial (walk v)) (c.in_err-visit.ensures.is d.0.date n)) in
     record {
       is = λ n. subst (λ (x : Result (Unit {0}) Denial). Marking src reach n [] (marks w) (walk w) (ended x (walk v))) (sym (p.1 ∙ ap (λ (x : Denial). Err x) p.2)) (m n);

@@ -1,4 +1,4 @@
-use Rattle.std.proofs.Common.{◌≡◌, ℕ, ◌<◌, ◌≤◌, Bool, List, [], length, get_or, drop, Ok, Err, Result, sym, refl, ap, ◌∙◌, subst, arith}
+use Rattle.std.proofs.Common.{◌≡◌, Bool, List, [], drop, Ok, Err, Result, sym, ap, ◌∙◌, subst, arith}
 use Rattle.std.proofs.lemmas.List.{drop_all}
 use Rattle.std.proofs.lemmas.Result.{err_from_is_err_and}
 use Rattle.source.specs.declared.ObjectId.{ObjectId}
@@ -24,7 +24,7 @@ returns-in_err-spread_one g c =
     let v = c.spread_one.new.self in
     let i = c.loop-n.invariant in
     let d = c.in_err-spread_one.field-0.0 in
-    let p = err_from_is_err_and c.from-residual.result c.from-residual.ensures.1 in
+    let p = err_from_is_err_and c.from_residual.result c.from_residual.ensures.1 in
     let pe = parent_then (walk w) (walk u) c.args.row c.loop-n.n c.parent-parent.result i.0 c.requires.inside c.parent-parent.ensures in
     let h = subst (λ (y : ObjectId). SpreadOne src c.args.generation y (marks u) (walk u) (Err d) (marks v) (walk v)) pe c.in_err-spread_one.ensures.is in
     let m = λ (all : Bool). i.3 all (no d (walk v)) (spread_stop src c.args.generation (parents_at w c.args.row) c.loop-n.n no_id no_id (marks u) (marks v) (walk u) (walk v) d (omega (arith, c.loop-n-test.true, c.head-count.ensures.parents)) h all) in

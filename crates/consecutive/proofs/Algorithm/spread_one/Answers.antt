@@ -1,9 +1,9 @@
-use Rattle.std.proofs.Common.{◌≡◌, ◌+◌, ◌≤◌, false, Some, None, Ok, Err, Result, sym, refl, ap, ◌∙◌, subst, arith}
+use Rattle.std.proofs.Common.{◌≤◌, Some, None, Ok, Err, Result, sym, ap, ◌∙◌, subst, arith}
 use Rattle.std.proofs.lemmas.Result.{err_from_is_err_and}
 use Rattle.book.specs.declared.types.Denial.{Denial}
-use Rattle.model.specs.Book.{Flags, Marks, flags_at}
+use Rattle.model.specs.Book.{Flags, Marks}
 use Rattle.model.specs.Parts.{SpreadOne}
-use Rattle.model.specs.Steady.{Fit, Held, common_rows}
+use Rattle.model.specs.Steady.{Fit, common_rows}
 use Rattle.model.proofs.Fits.{looks_ext, lookup_ext, commons_most}
 use Rattle.model.proofs.Moves.{spread_err, spread_none, spread_had}
 use Rattle.walk.proofs.Views.{looks_as}
@@ -19,7 +19,7 @@ returns-in_err-row g c =
     let w = c.args.self.now in
     let u = c.lookup.new.self in
     let l = c.in_err-row.ensures.is in
-    let p = err_from_is_err_and c.from-residual.result c.from-residual.ensures.1 in
+    let p = err_from_is_err_and c.from_residual.result c.from_residual.ensures.1 in
     let x = looks_ext src (walk w) c.args.id (walk u) (Err c.in_err-row.field-0.0) l in
     let h = held_quiet w.state u.state 0 c.lookup.ensures.quiet x c.requires.held in
     record {

@@ -30,7 +30,7 @@ returns-in_err-pushed g c =
     let r = c.in-Some.turn in
     let m = r.entry in
     let T = c.in-Some.ensures.is in
-    let p = err_from_is_err_and c.from-residual.result c.from-residual.ensures.1 in
+    let p = err_from_is_err_and c.from_residual.result c.from_residual.ensures.1 in
     subst (λ (x : Result (Option ℕ) Denial). Next src w (haves x) v) (sym (p.1 ∙ ap (λ (x : Denial). Err x) p.2))
     (c.loop-turn.invariant _ v (next_stops src s t r.row (unpack m.flags.bits) m.original_ttl m.ttl T v _ (same s t r.row _ _ _ T c.in-Some.ensures.grows) c.in_err-pushed.ensures.is))
 

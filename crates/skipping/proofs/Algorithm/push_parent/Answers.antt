@@ -29,7 +29,7 @@ returns-in_err-add_own g c =
     let m = c.args.entry in
     let s = walk c.args.self.now in
     let t = walk c.add_own.new.self in
-    let p = err_from_is_err_and c.from-residual.result c.from-residual.ensures.1 in
+    let p = err_from_is_err_and c.from_residual.result c.from_residual.ensures.1 in
     record {
       is = subst (λ (r : Result Bool Denial). Pushed src (unpack m.flags.bits) m.original_ttl m.ttl c.args.id s r t) (sym (p.1 ∙ ap (λ (x : Denial). Err x) p.2))
           (parent_stuck src (unpack m.flags.bits) m.original_ttl m.ttl c.args.id s t _ (sym c.if-has_popped.ensures) (unseen_is src SEEN c.args.id s _ t c.in_err-add_own.ensures));
@@ -50,7 +50,7 @@ returns-in_err-mark_common g c =
     let s = walk c.args.self.now in
     let t = walk c.add_own.new.self in
     let u = walk c.mark_common.new.self in
-    let p = err_from_is_err_and c.from-residual-in_err-mark_common.result c.from-residual-in_err-mark_common.ensures.1 in
+    let p = err_from_is_err_and c.from_residual-in_err-mark_common.result c.from_residual-in_err-mark_common.ensures.1 in
     record {
       is = subst (λ (r : Result Bool Denial). Pushed src (unpack m.flags.bits) m.original_ttl m.ttl c.args.id s r u) (sym (p.1 ∙ ap (λ (x : Denial). Err x) p.2))
           (parent_halted src (unpack m.flags.bits) m.original_ttl m.ttl c.args.id s t u _ (sym c.if-has_popped.ensures) (unseen_is src SEEN c.args.id s _ t c.in_ok-add_own.ensures) (sym c.if-passes_common.ensures) c.in_err-mark_common.ensures.is);
@@ -76,7 +76,7 @@ returns-in_err-row g c =
     let s = walk c.args.self.now in
     let t = walk c.add_own.new.self in
     let u = walk c.parent_row.new.self in
-    let p = err_from_is_err_and c.from-residual-in_err-row.result c.from-residual-in_err-row.ensures.1 in
+    let p = err_from_is_err_and c.from_residual-in_err-row.result c.from_residual-in_err-row.ensures.1 in
     let h = c.in_err-row.ensures in
     record {
       is = subst (λ (r : Result Bool Denial). Pushed src (unpack m.flags.bits) m.original_ttl m.ttl c.args.id s r u) (sym (p.1 ∙ ap (λ (x : Denial). Err x) (p.2 ∙ h.0)))

@@ -32,7 +32,7 @@ returns-in_err-pushed g c =
     let d = c.in_err-pushed.field-0.0 in
     let pe : c.parent-parent.result ≡ get_or ps n no_id = c.parent-parent.ensures ∙ ap (λ (l : List ObjectId). get_or l n no_id) (i.0.same_parents k c.requires) in
     let h = subst (λ (y : ObjectId). Pushed src (unpack m.flags.bits) m.original_ttl m.ttl y (walk u) (Err d) (walk v)) pe c.in_err-pushed.ensures.is in
-    let p = err_from_is_err_and c.from-residual.result c.from-residual.ensures.1 in
+    let p = err_from_is_err_and c.from_residual.result c.from_residual.ensures.1 in
     record {
       is = subst (λ (r : Result Bool Denial). Handed src (unpack m.flags.bits) m.original_ttl m.ttl ps (walk w) r (walk v)) (sym (p.1 ∙ ap (λ (x : Denial). Err x) p.2))
           (hand_stop src (unpack m.flags.bits) m.original_ttl m.ttl ps (walk w) c.loop-n.pushed n no_id (walk u) (walk v) d (omega (arith, c.loop-n-test.true, c.head-count.ensures.parents)) i.1 h);

@@ -1,13 +1,13 @@
-use Rattle.std.proofs.Common.{◌≡◌, Bool, Ok, Err, Result, sym, refl, ap, ◌∙◌, subst, inl, inr}
+use Rattle.std.proofs.Common.{Err, Result, sym, refl, ap, ◌∙◌, subst, inl, inr}
 use Rattle.std.proofs.lemmas.Result.{err_from_is_err_and}
 use Rattle.book.specs.declared.types.Denial.{Denial}
 use Rattle.model.specs.declared.Algorithm.TheVariants.{Consecutive}
-use Rattle.model.specs.declared.Call.TheVariants.{KnownCommon, AddTip, NextHave, InCommonWithRemote}
-use Rattle.model.specs.declared.Reply.TheVariants.{Told, Denied}
+use Rattle.model.specs.declared.Call.TheVariants.{KnownCommon}
+use Rattle.model.specs.declared.Reply.TheVariants.{Denied}
 use Rattle.model.specs.Consecutive as steps
 use Rattle.model.specs.Laws.{Answers}
-use Rattle.model.specs.Parts.{dones, tolds}
-use Rattle.model.proofs.Calls.{answers, tip_ran, known_ran}
+use Rattle.model.specs.Parts.{dones}
+use Rattle.model.proofs.Calls.{answers, known_ran}
 use Rattle.consecutive.specs.Seen.{walk}
 use Rattle.consecutive.proofs.calls.AlgorithmNegotiator.known_common.Goals as goal
 
@@ -25,7 +25,7 @@ returns-in_err-push g c =
     let src = g.S.Source.meaning c.args.source.now in
     let s = walk c.args.self.now in
     let t = walk c.push.new.self in
-    let p = err_from_is_err_and c.from-residual.result c.from-residual.ensures.1 in
+    let p = err_from_is_err_and c.from_residual.result c.from_residual.ensures.1 in
     subst (λ (r : Result (Unit {0}) Denial). Answers Consecutive src s (KnownCommon c.args.id) (dones r) t) (sym (p.1 ∙ ap (λ (x : Denial). Err x) p.2))
     (answers Consecutive src s t (KnownCommon c.args.id) (Denied c.in_err-push.field-0.0) (inr (sym c.if-is_stopped.ensures, steps.Ran.known_no (sym c.if-has_seen.ensures) c.in_err-push.ensures.is)))
 

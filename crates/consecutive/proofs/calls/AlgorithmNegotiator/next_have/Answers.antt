@@ -1,14 +1,6 @@
-use Rattle.std.proofs.Common.{◌≡◌, Bool, Ok, Err, Result, sym, refl, ap, ◌∙◌, subst, inl, inr}
-use Rattle.std.proofs.lemmas.Result.{err_from_is_err_and}
-use Rattle.book.specs.declared.types.Denial.{Denial}
-use Rattle.model.specs.declared.Algorithm.TheVariants.{Consecutive}
-use Rattle.model.specs.declared.Call.TheVariants.{KnownCommon, AddTip, NextHave, InCommonWithRemote}
-use Rattle.model.specs.declared.Reply.TheVariants.{Told, Denied}
+use Rattle.std.proofs.Common.{sym, refl, inl, inr}
 use Rattle.model.specs.Consecutive as steps
-use Rattle.model.specs.Laws.{Answers}
-use Rattle.model.specs.Parts.{dones, tolds}
-use Rattle.model.proofs.Calls.{answers, tip_ran, known_ran}
-use Rattle.consecutive.specs.Seen.{walk}
+use Rattle.model.proofs.Calls.{answers}
 use Rattle.consecutive.proofs.calls.AlgorithmNegotiator.next_have.Goals as goal
 
 pub returns-then-is_stopped : goal.returns-then-is_stopped

@@ -18,7 +18,7 @@ pub returns-in_err-known : goal.returns-in_err-known
 returns-in_err-known g c =
     let src = g.S.Source.meaning c.args.source.now in
     let s = walk c.args.self.now in
-    let p = err_from_is_err_and c.from-residual.result c.from-residual.ensures.1 in
+    let p = err_from_is_err_and c.from_residual.result c.from_residual.ensures.1 in
     let h = known_err _ _ _ c.in_err-known.ensures in
     answers _ _ _ _ _ _ (inr (sym c.if-is_stopped.ensures, subst (λ (r : Result Bool Denial). Ran src s (InCommonWithRemote c.args.id) (tolds r) s) (sym (p.1 ∙ ap (λ (x : Denial). Err x) (p.2 ∙ h.1))) (Ran.ack_unseen h.0)))
 
@@ -30,7 +30,7 @@ returns-in_err-mark_common g c =
     let src = g.S.Source.meaning c.args.source.now in
     let s = walk c.args.self.now in
     let t = walk c.mark_common.new.self in
-    let p = err_from_is_err_and c.from-residual-in_err-mark_common.result c.from-residual-in_err-mark_common.ensures.1 in
+    let p = err_from_is_err_and c.from_residual-in_err-mark_common.result c.from_residual-in_err-mark_common.ensures.1 in
     answers _ _ _ _ _ _ (inr (
       sym c.if-is_stopped.ensures,
       subst (λ (r : Result Bool Denial). Ran src s (InCommonWithRemote c.args.id) (tolds r) t) (sym (p.1 ∙ ap (λ (x : Denial). Err x) p.2))
