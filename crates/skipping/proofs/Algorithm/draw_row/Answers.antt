@@ -23,8 +23,10 @@ lower_count-requires c =
 pub invariant_of-self-2 : goal.invariant_of-self-2
 invariant_of-self-2 c =
     let s = c.args.self.now in
-    let h = some_of _ _ _ c.in-Some.ensures.is in record { fit = fits s.state c.draw.new.state c.in-Some.row h.0 c.in-Some.ensures.quiet h.1 c.metadata-entry.result c.metadata-entry.ensures c.set_flags.new.self c.set_flags.ensures.quiet c.set_flags.ensures.is _ c.uncommon.ensures
-          s.fit _ c.lower_count.ensures.quiet c.lower_count.ensures.is }
+    let h = some_of _ _ _ c.in-Some.ensures.is in record {
+      fit = fits s.state c.draw.new.state c.in-Some.row h.0 c.in-Some.ensures.quiet h.1 c.metadata-entry.result c.metadata-entry.ensures c.set_flags.new.self c.set_flags.ensures.quiet c.set_flags.ensures.is _ c.uncommon.ensures
+          s.fit _ c.lower_count.ensures.quiet c.lower_count.ensures.is;
+    }
 
 pub returns : goal.returns
 returns c =

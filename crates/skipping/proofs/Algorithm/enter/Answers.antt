@@ -16,8 +16,10 @@ raise_count-requires c =
 
 pub invariant_of-self : goal.invariant_of-self
 invariant_of-self c =
-    let s = c.args.self.now in record { fit = fits s.state _ _ c.args.mask.bits s.fit c.requires.inside c.requires.adds c.requires.unseen c.set_flags.ensures.quiet c.set_flags.ensures.is _ c.enqueue.ensures.is
-          _ c.raise_count.ensures.is c.enqueue.ensures.aside c.enqueue.ensures.number c.raise_count.ensures.quiet }
+    let s = c.args.self.now in record {
+      fit = fits s.state _ _ c.args.mask.bits s.fit c.requires.inside c.requires.adds c.requires.unseen c.set_flags.ensures.quiet c.set_flags.ensures.is _ c.enqueue.ensures.is
+          _ c.raise_count.ensures.is c.enqueue.ensures.aside c.enqueue.ensures.number c.raise_count.ensures.quiet;
+    }
 
 pub returns : goal.returns
 returns c =

@@ -1,4 +1,4 @@
-use Rattle.std.proofs.Common.{◌-◌, ◌≤◌, sym, ap, subst, arith}
+use Rattle.std.proofs.Common.{◌≤◌, sym, ap, subst, arith}
 use Rattle.model.specs.Book.{Walk}
 use Rattle.model.specs.Steady.{SkipFit, Ext, common_rows}
 use Rattle.model.proofs.Good.{ext_trans, ext_refl}
