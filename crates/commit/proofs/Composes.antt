@@ -5,8 +5,8 @@ use borrow.Author.Tests.{eqb-false}
 use Rattle.std.proofs.lemmas.List.{append-nil}
 use Rattle.source.specs.declared.ObjectId.{ObjectId}
 use Rattle.commit.specs.Layout.{onto, lines_of, words_of, behind, nameb, name_of, named, moment_of, zoneb, stamp, stamped, behind_line, ended, committer_of, closed, authored, fathered, parents_of, planted, commit_of, reading_of, Reading, fits, misfits}
-use Rattle.commit.specs.Laws.{Lacks, Spaced, AllNames, parent_lines, last_lines, Written, Composed}
-use Rattle.commit.proofs.Cuts.{Worded, worded}
+use Rattle.commit.specs.Laws.{Lacks, Spaced, AllNames, parent_lines, Written, Composed}
+use Rattle.commit.proofs.Cuts.{worded}
 use Rattle.commit.proofs.Fronts.{behind_is}
 
 absurd : {G : Type 0} → ◌≡◌ {A = ℕ} 0 1 → G

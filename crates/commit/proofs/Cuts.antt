@@ -1,5 +1,5 @@
 -- Lines and words, cut at their first or last line feed or space.
-use Rattle.std.proofs.Common.{◌≡◌, ℕ, zero, suc, ◌+◌, ◌-◌, ◌<◌, ◌≤◌, Bool, true, false, cond, eqb, List, [], ◌∷◌, ◌++◌, length, get_or, take, drop, Some, None, Option, sym, refl, ap, ◌∙◌, subst, ⊎_elim, add-one, arith, length-drop, get_or-drop, drop-drop, eq-eqb, ne_eqb}
+use Rattle.std.proofs.Common.{◌≡◌, ℕ, zero, suc, ◌+◌, ◌-◌, ◌<◌, Bool, true, false, cond, eqb, List, [], ◌∷◌, ◌++◌, length, get_or, take, drop, None, sym, refl, ap, ◌∙◌, add-one, arith, length-drop, get_or-drop, drop-drop, eq-eqb, ne_eqb}
 use lib.Seq.{split_at}
 use Rattle.std.proofs.lemmas.List.{take_rest}
 use Rattle.commit.specs.Layout.{onto, lines_of, words_of, zoneb, moment_of, stamp}

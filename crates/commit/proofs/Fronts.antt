@@ -1,9 +1,9 @@
 -- What follows a word at a line's start.
-use Rattle.std.proofs.Common.{◌≡◌, ℕ, zero, suc, ◌+◌, ◌<◌, ◌≤◌, Bool, true, false, cond, ◌&&◌, eqb, ◌⊎◌, List, [], ◌∷◌, ◌++◌, length, get_or, take, drop, Some, None, codes, Decides, Option, sym, refl, ap, ◌∙◌, subst, ⊎_elim, arith, Bor, eq-eqb, ne_eqb, MatchOption}
+use Rattle.std.proofs.Common.{◌≡◌, ℕ, ◌+◌, ◌<◌, Bool, true, false, cond, ◌&&◌, eqb, List, [], ◌∷◌, ◌++◌, length, get_or, take, drop, Some, None, codes, Option, sym, refl, ap, ◌∙◌, ⊎_elim, Bor, eq-eqb, ne_eqb, MatchOption}
 use lib.Seq.{drop-length}
 use Rattle.std.proofs.lemmas.List.{at_drop_more}
 use Rattle.std.specs.Option.{option_map}
-use Rattle.std.specs.Cmp.Lexicographic.{Matches}
+use Rattle.std.specs.Cmp.Lexicographic.{pointwise}
 use Rattle.std.proofs.lemmas.Bool.Decides.{eqb_tells, Decides-eqb}
 use Rattle.std.proofs.lemmas.Slice.Eq.{strip_prefix_is}
 use Rattle.commit.specs.Layout.{behind}
@@ -27,7 +27,7 @@ ways w l None nay = unlike w l nay
 ways w l (Some x) is = ap (behind w) is ∙ same w x.now
 
 -- what `strip_prefix` gives
-pub stripped : (w l : List ℕ) (r : Option (Bor (List ℕ))) → MatchOption r (Matches (λ (a b : ℕ) (t : Bool). Decides t (a ≡ b)) (take (length w) l) w false) (λ x. Matches (λ (a b : ℕ) (t : Bool). Decides t (a ≡ b)) (take (length w) l) w true × (x.now ≡ drop (length w) l) × (length x.now + length w ≡ length l)) → behind w l ≡ option_map (λ x. x.now) r
+pub stripped : (w l : List ℕ) (r : Option (Bor (List ℕ))) → MatchOption r (pointwise eqb (take (length w) l) w ≡ false) (λ x. (pointwise eqb (take (length w) l) w ≡ true) × (x.now ≡ drop (length w) l) × (length x.now + length w ≡ length l)) → behind w l ≡ option_map (λ x. x.now) r
 stripped w l r h = ways w l r (strip_prefix_is Decides-eqb l w r h)
 
 -- a line that begins with a word

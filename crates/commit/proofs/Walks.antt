@@ -1,13 +1,12 @@
 -- The lines of a text, one after another.
-use Rattle.std.proofs.Common.{◌≡◌, ℕ, zero, suc, ◌+◌, ◌-◌, ◌*◌, ◌/◌, ◌<◌, ◌≤◌, Bool, true, false, cond, ◌&&◌, eqb, List, [], ◌∷◌, ◌++◌, map, length, get_or, take, drop, ℤ, Some, None, Ok, Err, codes, Option, Result, sym, refl, ap, ◌∙◌, subst, append_assoc, arith, length-append, length-drop, length-take-le, take-take, drop-drop, take_at, ext_get_or, drop_at, eqb-true}
+use Rattle.std.proofs.Common.{◌≡◌, ℕ, ◌+◌, ◌-◌, ◌*◌, ◌/◌, ◌<◌, ◌≤◌, Bool, true, false, cond, ◌&&◌, eqb, List, [], ◌∷◌, ◌++◌, length, take, drop, ℤ, Some, None, codes, Option, Result, sym, refl, ap, ◌∙◌, append_assoc, arith, length-append, length-take-le, take-take, drop-drop, take_at, ext_get_or, drop_at, eqb-true}
 use Rattle.std.proofs.lemmas.List.{drop-take}
-use Rattle.std.specs.List.{range_with_len, slice_get}
+use Rattle.std.specs.List.{slice_get}
 use Rattle.std.proofs.lemmas.List.FromFn.{map-range_with_len_more, length-map-range_with_len, get_or-map-range_with_len}
 use Rattle.std.proofs.lemmas.Option.{slice_get-get_or, slice_get_past}
-use Rattle.std.proofs.lemmas.Bool.Decides.{Decides-and, Decides-eqb, nat_tests}
 use Rattle.source.specs.declared.ObjectId.{ObjectId}
-use Rattle.commit.specs.Layout.{behind, behind_line, named, nameb, name_of, all_hex, stamped, stamp, words_of, ended, committer_of, closed, authored, fathered, parents_of, Reading, fits, misfits, lines_of, commit_of, planted}
-use Rattle.commit.specs.Shapes.{Head, tree, parent, author, committer, other, head_of, name_at, names_in, names_of}
+use Rattle.commit.specs.Layout.{behind, behind_line, named, nameb, name_of, all_hex, stamped, stamp, words_of, ended, committer_of, closed, authored, fathered, parents_of, fits, misfits, lines_of, commit_of, planted}
+use Rattle.commit.specs.Shapes.{tree, parent, author, committer, other, head_of, name_at, names_in, names_of}
 use Rattle.commit.proofs.Fronts.{is_tree, is_parent, is_author, is_committer, is_other, behind_is, apart}
 
 pub committer_line : (t l tail x : List ℕ) (p at : ℕ) → lines_of t ≡ l ∷ lines_of tail → committer x p ≡ head_of l at → (committer_of at (lines_of t) ≡ ended at (stamp (words_of x))) × (p ≡ at)

@@ -1,10 +1,10 @@
 -- A text that the layout composes is read as it was composed.
-use Rattle.std.proofs.Common.{◌≡◌, ℕ, ◌+◌, ◌<◌, ◌≤◌, Bool, true, false, cond, not, ◌&&◌, ◌||◌, eqb, leb, List, [], ◌∷◌, ◌++◌, map, length, ℤ, Some, None, codes, Option, Result, sym, refl, ap, ◌∙◌, subst, append_assoc, arith, ne_eqb, eqb-true}
+use Rattle.std.proofs.Common.{◌≡◌, ℕ, ◌<◌, ◌≤◌, Bool, true, false, cond, not, ◌&&◌, ◌||◌, eqb, leb, List, [], ◌∷◌, ◌++◌, map, length, ℤ, Some, None, codes, Option, sym, refl, ap, ◌∙◌, append_assoc, arith, ne_eqb, eqb-true}
 use lib.Seq.{append_snoc}
 use Rattle.std.proofs.lemmas.Bool.Decides.{nat_tests}
 use Rattle.std.proofs.lemmas.List.{append-nil}
 use Rattle.source.specs.declared.ObjectId.{ObjectId}
-use Rattle.commit.specs.Layout.{onto, lines_of, words_of, hexb, all_hex, nameb, name_of, named, digitb, all_digits, number, amount_of, upward, downward, moment_of, zoneb, stamp, stamped, ended, committer_of, closed, behind_line, fathered, authored, parents_of, planted, Reading, fits, reading_of, commit_of}
+use Rattle.commit.specs.Layout.{onto, lines_of, words_of, hexb, all_hex, nameb, name_of, digitb, all_digits, number, amount_of, upward, downward, moment_of, zoneb, stamp, ended, committer_of, closed, behind_line, fathered, authored, parents_of, planted, fits, reading_of, commit_of}
 use Rattle.commit.specs.Laws.{Lacks, Spaced, AllNames, parent_lines, Written}
 use Rattle.commit.proofs.Cuts.{words_both, stamp_two}
 

@@ -1,5 +1,5 @@
 -- What the values that borrow from a text say.
-use Rattle.std.specs.Prelude.{ℕ, ◌+◌, ◌-◌, ◌*◌, ◌/◌, List, [], ◌∷◌, ◌++◌, map, length, take, drop, Some, None, Ok, Err, codes, Option, Result}
+use Rattle.std.specs.Prelude.{ℕ, ◌+◌, ◌*◌, ◌/◌, List, map, length, take, drop, Some, None, Ok, Err, codes, Option, Result}
 use Rattle.std.specs.List.{range_with_len}
 use Rattle.source.specs.declared.ObjectId.{ObjectId}
 use Rattle.commit.specs.declared.Line.{Line}

@@ -1,8 +1,7 @@
 -- A store scanned from its front, one pair after another.
-use Rattle.std.proofs.Common.{◌≡◌, ℕ, zero, suc, ◌+◌, ◌-◌, ◌<◌, ◌≤◌, Bool, true, false, cond, ltb, List, length, sym, refl, ap, ◌∙◌, arith, le-ltb, lt-ltb}
+use Rattle.std.proofs.Common.{◌≡◌, ℕ, zero, suc, ◌-◌, ◌<◌, ◌≤◌, Bool, true, false, cond, List, length, sym, refl, ap, ◌∙◌, arith, le-ltb, lt-ltb}
 use Rattle.std.specs.Str.{bytes_eq}
 use Rattle.source.specs.declared.Cause.{Cause}
-use Rattle.fields.specs.declared.Found.{Found}
 use Rattle.fields.specs.declared.Found.TheVariants.{Absent, Bad, At}
 use Rattle.fields.specs.Pairs.{Pairing, bad, good, pair_at, go_on, scan}
 

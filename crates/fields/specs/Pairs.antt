@@ -1,5 +1,5 @@
 -- The pairs of a store, each a field with an id and a field with its text, and the first pair with an id.
-use Rattle.std.specs.Prelude.{◌≡◌, ℕ, zero, suc, ◌+◌, ◌<◌, ◌≤◌, Bool, true, false, cond, List, [], ◌∷◌, length, drop, ◌==◌, nat_lt, slice_index}
+use Rattle.std.specs.Prelude.{◌≡◌, ℕ, zero, suc, ◌+◌, ◌<◌, ◌≤◌, cond, List, length, drop, ◌==◌, nat_lt, slice_index}
 use Rattle.std.specs.Str.{bytes_eq}
 use Rattle.source.specs.declared.Cause.{Cause}
 use Rattle.source.specs.declared.Cause.TheVariants.{PastEnd, Misplaced}

@@ -1,5 +1,5 @@
 -- The pairs of a store, collected one after another.
-use Rattle.std.proofs.Common.{◌≡◌, ℕ, zero, suc, ◌+◌, ◌-◌, ◌<◌, ◌≤◌, min, Bool, true, false, cond, List, [], ◌∷◌, ◌++◌, length, Some, None, Decides, Option, sym, refl, ap, ◌∙◌, ⊎_elim, arith}
+use Rattle.std.proofs.Common.{◌≡◌, ℕ, zero, suc, ◌-◌, ◌<◌, ◌≤◌, min, Bool, true, false, cond, List, [], ◌∷◌, ◌++◌, length, Some, None, Decides, Option, sym, refl, ap, ◌∙◌, ⊎_elim, arith}
 use Rattle.std.specs.List.{ContainsAt as Has}
 use Rattle.std.specs.Str.{bytes_eq}
 use Rattle.std.proofs.ByRecursion.{has_push_cases}
@@ -7,7 +7,7 @@ use Rattle.std.proofs.lemmas.Slice.Eq.{bytes_eq-Decides}
 use Rattle.source.specs.declared.Cause.{Cause}
 use Rattle.fields.specs.declared.Found.{Found}
 use Rattle.fields.specs.declared.Found.TheVariants.{Absent, Bad, At}
-use Rattle.fields.specs.Pairs.{Pairing, bad, good, pair_at, go_on, scan}
+use Rattle.fields.specs.Pairs.{bad, good, pair_at, scan}
 use Rattle.fields.proofs.Scans.{opened, ended}
 use Rattle.indexed.specs.declared.spots.Spot.{Spot}
 use Rattle.indexed.specs.Spots.{known, lesser, Least, Collected}

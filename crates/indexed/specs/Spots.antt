@@ -1,9 +1,9 @@
 -- The places of the pairs of each id.
-use Rattle.std.specs.Prelude.{◌≡◌, ℕ, ◌<◌, ◌≤◌, min, Bool, true, false, List, length, Some, None, Option, ◌≢◌, nat_le}
+use Rattle.std.specs.Prelude.{◌≡◌, ℕ, ◌≤◌, min, Bool, true, false, List, length, Some, None, Option, ◌≢◌, nat_le}
 use Rattle.std.specs.declared.cmp.Ordering.{Ordering}
-use Rattle.std.specs.Cmp.{IsTotalOrder, nat_cmp_total}
-use Rattle.std.specs.Cmp.Lexicographic.{Lex, lexical}
-use Rattle.std.specs.Ordering.{MatchOrdering}
+use Rattle.std.specs.Cmp.{IsTotalOrder}
+use Rattle.std.specs.Cmp.Lexicographic.{slice_cmp, nat_list_cmp_total}
+use Rattle.std.specs.Ordering.{nat_cmp}
 use Rattle.std.specs.List.{ContainsAt as Has}
 use Rattle.fields.specs.declared.Found.{Found}
 use Rattle.fields.specs.declared.Found.TheVariants.{At}
@@ -11,8 +11,12 @@ use Rattle.fields.specs.Pairs.{scan}
 use Rattle.indexed.specs.declared.spots.Spot.{Spot}
 
 -- the order of ids, byte by byte
-abbrev pub by_bytes : IsTotalOrder (Lex (λ (x y : ℕ) (r : Ordering). MatchOrdering r (x < y) (x ≡ y) (y < x)))
-by_bytes = lexical nat_cmp_total
+abbrev pub by_bytes : List ℕ → List ℕ → Ordering
+by_bytes = slice_cmp nat_cmp
+
+-- this order is total
+pub by_bytes_total : IsTotalOrder by_bytes
+by_bytes_total = nat_list_cmp_total
 
 -- what an id is, by the place that is known of it, and by what the ids are that have none
 abbrev pub known : Option ℕ → Found → Found

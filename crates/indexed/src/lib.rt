@@ -2,7 +2,8 @@
 #![tactic(auto)]
 
 ghost use Rattle.std.specs.Prelude.{◌≡◌, ℕ, List, length};
-ghost use Rattle.std.specs.BTreeMap.{get as place_in};
+ghost use Rattle.std.specs.BTreeMap.{get as place_in, IsOrdered, keys};
+ghost use Rattle.std.proofs.lemmas.Map.Keys.{IsStrictlySortedBy-prop};
 ghost use Rattle.fields.specs.Pairs.{scan};
 ghost use Rattle.store.specs.Stores.{store_of};
 ghost use Rattle.indexed.specs.Spots.{by_bytes, known};
@@ -21,6 +22,7 @@ pub struct Indexed<'a> {
     bytes: &'a [u8],
     rest: Found,
     map: BTreeMap<[u8; 20], usize>,
+    ghost lawful: { IsOrdered by_bytes map } by { IsStrictlySortedBy-prop by_bytes (keys map) },
     ghost agrees: { (q : List ℕ) → known (place_in by_bytes map q) rest ≡ scan (length bytes.now) q bytes.now 0 },
 }
 

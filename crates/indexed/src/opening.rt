@@ -1,6 +1,6 @@
 // How an index is made, and searched.
 ghost use Rattle.std.specs.Prelude.{◌≡◌, ℕ, List, length, IfOk, OnOk};
-ghost use Rattle.std.specs.BTreeMap.{get as place_in};
+ghost use Rattle.std.specs.BTreeMap.{get as place_in, IsOrdered};
 ghost use Rattle.std.specs.Ordering.{eq_by_cmp};
 ghost use Rattle.fields.specs.Pairs.{scan};
 ghost use Rattle.store.specs.Stores.{store_of, meant};
@@ -45,6 +45,8 @@ fn earlier(map: &BTreeMap<[u8; 20], usize>, spot: Spot) -> bool
 
 // Notes a pair under its id, unless an earlier one stands there.
 fn note(map: &mut BTreeMap<[u8; 20], usize>, spot: Spot) -> Result<(), AllocError>
+    requires { IsOrdered by_bytes map.old }
+    ensures lawful { IsOrdered by_bytes map.new }
     ensures after { OnOk result ((q : List ℕ) → place_in by_bytes map.new q ≡ lesser (place_in by_bytes map.old q) (eq_by_cmp by_bytes q spot.id) spot.place) }
 {
     if !earlier(map, spot) {
@@ -55,7 +57,7 @@ fn note(map: &mut BTreeMap<[u8; 20], usize>, spot: Spot) -> Result<(), AllocErro
 
 // The first pair of each id. Spots in the order of their ids are each put at the map's end, which is quick.
 fn firsts(heap: Global, spots: &[Spot]) -> Result<BTreeMap<[u8; 20], usize>, AllocError>
-    ensures { IfOk result (λ m. (q : List ℕ) → Least spots.now q (place_in by_bytes m q)) }
+    ensures { IfOk result (λ m. IsOrdered by_bytes m × ((q : List ℕ) → Least spots.now q (place_in by_bytes m q))) }
 {
     let mut map = BTreeMap::new(heap);
     for spot in spots {
@@ -70,7 +72,7 @@ impl<'a> Indexed<'a> {
         ensures { IfOk result (λ x. x.bytes.now ≡ bytes.now) }
     {
         let (mut spots, rest) = collect(heap, bytes)?;
-        spots.sort();
+        spots.sort_unstable();
         let map = firsts(heap, spots.as_slice())?;
         Ok(Indexed { bytes, rest, map })
     }

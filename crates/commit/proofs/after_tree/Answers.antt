@@ -1,18 +1,18 @@
-use Rattle.std.proofs.Common.{◌≡◌, ℤ, sym, ap, ◌∙◌, arith, w64, SFits, rules}
+use Rattle.std.proofs.Common.{sym, ap, ◌∙◌, arith, w64, SFits, rules}
 use Rattle.std.proofs.lemmas.Int.{to_z-of_z}
-use Rattle.commit.specs.Layout.{fits, closed}
+use Rattle.commit.specs.Layout.{closed}
 use Rattle.commit.specs.Shapes.{names_in}
 use Rattle.commit.proofs.Walks.{start, one_parent, at_author, no_line, bad_parent, at_tree, at_committer, at_other, sizes, names_front, fits_same}
 use Rattle.commit.proofs.after_tree.Goals as goal
 
-pub returns-then-not-is-name : goal.returns-then-not-is-name
-returns-then-not-is-name c = bad_parent _ _ _ _ c.in-Some.tail.now _ _ _ _ c.loop-line.invariant c.in-Some.ensures.0 c.in-Parent.ensures c.if-not-is-name.ensures
+pub returns-then-not-is_name : goal.returns-then-not-is_name
+returns-then-not-is_name c = bad_parent _ _ _ _ c.in-Some.tail.now _ _ _ _ c.loop-line.invariant c.in-Some.ensures.0 c.in-Parent.ensures c.if-not-is_name.ensures
 
-pub overflow-add-place : goal.overflow-add-place
-overflow-add-place c = omega (arith, sizes _ _ _ c.in-Some.ensures.1, c.loop-line.invariant.sums, c.requires)
+pub overflow_add-place : goal.overflow_add-place
+overflow_add-place c = omega (arith, sizes _ _ _ c.in-Some.ensures.1, c.loop-line.invariant.sums, c.requires)
 
-pub overflow-add-place-in-loop-line-2 : goal.overflow-add-place-in-loop-line-2
-overflow-add-place-in-loop-line-2 c = omega (arith, sizes _ _ _ c.in-Some.ensures.1, c.loop-line.invariant.sums, c.requires)
+pub overflow_add-place-in-loop-line-2 : goal.overflow_add-place-in-loop-line-2
+overflow_add-place-in-loop-line-2 c = omega (arith, sizes _ _ _ c.in-Some.ensures.1, c.loop-line.invariant.sums, c.requires)
 
 pub returns-in-Ok : goal.returns-in-Ok
 returns-in-Ok c =
@@ -35,8 +35,8 @@ returns-in-Committer c = at_committer _ _ _ _ c.in-Some.tail.now _ _ _ _ c.loop-
 pub returns-in-Other : goal.returns-in-Other
 returns-in-Other c = at_other _ _ _ _ c.in-Some.tail.now _ _ _ _ c.loop-line.invariant c.in-Some.ensures.0 c.in-Other.ensures
 
-pub returns-in-default : goal.returns-in-default
-returns-in-default c = no_line _ _ _ _ _ c.loop-line.invariant c.in-default.ensures
+pub returns-in_default : goal.returns-in_default
+returns-in_default c = no_line _ _ _ _ _ c.loop-line.invariant c.in_default.ensures
 
 pub loop-line-init : goal.loop-line-init
 loop-line-init c = start _ _
@@ -45,4 +45,4 @@ pub loop-line-smaller : goal.loop-line-smaller
 loop-line-smaller c = omega (arith, sizes _ _ _ c.in-Some.ensures.1)
 
 pub loop-line-preserved : goal.loop-line-preserved
-loop-line-preserved c = one_parent _ _ _ _ c.in-Some.tail.now _ _ _ _ c.loop-line.invariant c.in-Some.ensures.0 c.in-Some.ensures.1 c.in-Parent.ensures c.if-not-is-name.ensures
+loop-line-preserved c = one_parent _ _ _ _ c.in-Some.tail.now _ _ _ _ c.loop-line.invariant c.in-Some.ensures.0 c.in-Some.ensures.1 c.in-Parent.ensures c.if-not-is_name.ensures

@@ -6,4 +6,4 @@ pub returns-then-digits-eq4 : goal.returns-then-digits-eq4
 returns-then-digits-eq4 c =
     let w = c.args.word.now in
     let s : (get_or w 0 0 ≡ 43) ⊎ (get_or w 0 0 ≡ 45) = search rules in
-    zone_four w _ s c.if-digits-eq4.true c.all-digits.ensures
+    zone_four w _ s c.if-digits-eq4.true c.all_digits.ensures

@@ -1,6 +1,6 @@
 use Rattle.std.proofs.Common.{◌≡◌, ◌≤◌, length, get_or, sym, ap, ◌∙◌, rules}
 use Rattle.commit.specs.Layout.{downward}
-use Rattle.commit.proofs.Numbers.{moment_minus, moment_other}
+use Rattle.commit.proofs.Numbers.{moment_minus}
 use Rattle.commit.proofs.moment.Goals as goal
 
 pub returns-in-Some : goal.returns-in-Some

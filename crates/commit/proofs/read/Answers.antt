@@ -1,4 +1,4 @@
-use Rattle.std.proofs.Common.{◌∙◌, arith}
+use Rattle.std.proofs.Common.{◌∙◌}
 use Rattle.commit.specs.Shapes.{said}
 use Rattle.commit.proofs.Writes.{reads_written}
 use Rattle.commit.proofs.Composes.{composed}
@@ -7,9 +7,9 @@ use Rattle.commit.proofs.read.Goals as goal
 pub returns : goal.returns
 returns c =
     let t = c.args.text.now in
-    let e = c.read-at.ensures in
+    let e = c.read_at.ensures in
     record {
       means = e;
       takes = λ d ps w. e ∙ reads_written t d ps w;
-      composed = composed t (said c.read-at.result) e;
+      composed = composed t (said c.read_at.result) e;
     }

@@ -7,6 +7,6 @@ returns c =
     let b = c.args.store.now in
     let e : c.min.result ≡ min c.args.at (length b) = search rules in
     record {
-      bytes = c.split-at.ensures.back ∙ drop_min c.args.at c.min.result b e;
-      len = omega (arith, c.split-at.ensures.back_len, e);
+      bytes = c.split_at.ensures.back ∙ drop_min c.args.at c.min.result b e;
+      len = omega (arith, c.split_at.ensures.back_len, e);
     }

@@ -8,7 +8,7 @@ use Rattle.indexed.proofs.opening.firsts.Goals as goal
 
 pub loop-spot-preserved : goal.loop-spot-preserved
 loop-spot-preserved c =
-    let n = c.in-ok-note.ensures in
+    let n = c.in_ok-note.ensures in
     (n.lawful, λ q. noted c.args.spots.now c.loop-spot.spot-index (record { id = []; place = 0 }) q (get by_bytes c.loop-spot.map q) (get by_bytes c.note.new.map q) c.loop-spot-test.true (c.loop-spot.invariant.1 q) (n.after q))
 
 pub returns : goal.returns
