@@ -1,5 +1,5 @@
 -- Fields of an input, one after another.
-use Rattle.std.proofs.Common.{◌≡◌, ℕ, zero, suc, ◌+◌, ◌-◌, ◌*◌, ◌<◌, ◌≤◌, Bool, true, false, cond, eqb, ltb, List, [], ◌∷◌, length, get_or, take, drop, is_some, Some, None, Option, sym, refl, ap, ◌∙◌, subst, arith, length-drop, le-ltb, lt-ltb, eq-eqb, ne_eqb}
+use Rattle.std.proofs.Common.{◌≡◌, ℕ, zero, suc, ◌+◌, ◌<◌, ◌≤◌, Bool, true, false, cond, eqb, List, [], length, get_or, take, is_some, Some, None, Option, sym, refl, ap, ◌∙◌, arith, length-drop, le-ltb, lt-ltb, eq-eqb, ne_eqb}
 use Rattle.fields.specs.Fields.{long, body_of, Field}
 use Rattle.model.specs.declared.Call.{Call}
 use Rattle.input.specs.Inputs.{pastb, behind_field, call_of, misfit_from, on_call, call_list, calls_of, Parsed, bad, numbered, store_then}

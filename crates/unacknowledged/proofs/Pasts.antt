@@ -1,10 +1,10 @@
 -- What holds of a run's past holds of its list.
-use Rattle.std.proofs.Common.{◌≡◌, ℕ, ◌+◌, ◌<◌, ◌≤◌, Bool, true, false, cond, ◌⊎◌, List, [], ◌∷◌, ◌++◌, map, length, get_or, take, sym, refl, ap, ◌∙◌, subst, inl, inr, ⊎_elim}
+use Rattle.std.proofs.Common.{◌≡◌, ℕ, ◌+◌, ◌<◌, ◌≤◌, Bool, true, false, cond, ◌⊎◌, List, [], ◌∷◌, ◌++◌, length, get_or, take, sym, refl, ap, ◌∙◌, subst, inl, inr, ⊎_elim}
 use Rattle.std.proofs.lemmas.Bool.{both_ways}
 use Rattle.std.proofs.lemmas.List.{take_more, take_all, map_push}
 use Rattle.source.specs.declared.ObjectId.{ObjectId}
 use Rattle.book.specs.Denials.{stops_walk}
-use Rattle.model.specs.Book.{Row, no_row, Walk, made, row, flags_at, Source}
+use Rattle.model.specs.Book.{Row, Walk, made, row, flags_at, Source}
 use Rattle.model.specs.Steps.{ok, no}
 use Rattle.model.specs.Consecutive
 use Rattle.model.specs.Past as past
@@ -25,12 +25,11 @@ use Rattle.model.proofs.Runs.{May, push_seen, push_ref, mark_good, next_good}
 use Rattle.model.proofs.Moves.{called_past}
 use Rattle.model.proofs.Laws.{any, past_account}
 use Rattle.model.proofs.Every.{every_past_lawful, every_call_pops}
-use Rattle.unacknowledged.specs.declared.Commit.{Commit}
 use Rattle.unacknowledged.specs.declared.Missing.TheVariants.{LastNone, NoneAfterTip, Going}
 use Rattle.unacknowledged.specs.declared.Standing.{Standing}
 use Rattle.unacknowledged.specs.declared.Standing.TheVariants.{Finished, Unfinished}
 use Rattle.unacknowledged.specs.Judging.{tipped, accepted, replied, after, standing_from, standing_of}
-use Rattle.unacknowledged.specs.Listing.{named, listed}
+use Rattle.unacknowledged.specs.Listing.{named}
 use Rattle.unacknowledged.specs.declared.Outcome.{Outcome}
 use Rattle.unacknowledged.specs.Reports.{Recorded, told, outcome_of, ids, Distinct, Kept, Reports}
 use Rattle.unacknowledged.proofs.Listings.{named_acked, acked_named, listed_has, listed_from, Apart, distinct}

@@ -1,5 +1,5 @@
 -- What a read of a row's id gives.
-use Rattle.std.proofs.Common.{◌≡◌, ℕ, zero, suc, ◌<◌, ◌≤◌, List, [], ◌∷◌, map, length, get_or, Ok, Err, Result, refl, arith}
+use Rattle.std.proofs.Common.{◌≡◌, ℕ, zero, suc, ◌<◌, ◌≤◌, List, [], ◌∷◌, map, length, get_or, Ok, Err, refl, arith}
 use Rattle.std.specs.List.{slice_get}
 use Rattle.source.specs.declared.ObjectId.{ObjectId}
 use Rattle.book.specs.Rows.{Entry, no_id}

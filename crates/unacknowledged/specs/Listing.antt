@@ -1,5 +1,5 @@
 -- The haves that no accepted acknowledgement named.
-use Rattle.std.specs.Prelude.{ℕ, Bool, true, false, cond, List, [], ◌∷◌, get_or, slice_index_or}
+use Rattle.std.specs.Prelude.{Bool, true, false, cond, List, [], ◌∷◌, get_or, slice_index_or}
 use Rattle.source.specs.declared.ObjectId.{ObjectId}
 use Rattle.source.specs.Ids.{is_same_id}
 use Rattle.model.specs.Book.{Row, no_row}

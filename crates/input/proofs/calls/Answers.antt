@@ -1,4 +1,4 @@
-use Rattle.std.proofs.Common.{◌≡◌, List, [], ◌∷◌, ◌++◌, vec_items, sym, ap, ◌∙◌, append_assoc}
+use Rattle.std.proofs.Common.{List, [], ◌∷◌, ◌++◌, vec_items, sym, ap, ◌∙◌, append_assoc}
 use Rattle.model.specs.declared.Call.{Call}
 use Rattle.input.specs.Inputs.{calls_of}
 use Rattle.input.proofs.calls.Goals as goal

@@ -1,5 +1,5 @@
-use Rattle.std.proofs.Common.{◌≡◌, ℕ, ◌-◌, ◌<◌, ◌≤◌, Bool, cond, List, length, take, sym, ap, ◌∙◌, arith, le-ltb, true-eqb, false-eqb}
-use Rattle.input.specs.Inputs.{Parsed, bad, store_then, parsed_within, numbered}
+use Rattle.std.proofs.Common.{◌≡◌, ℕ, ◌-◌, ◌≤◌, Bool, cond, List, length, take, sym, ap, ◌∙◌, arith, le-ltb, true-eqb, false-eqb}
+use Rattle.input.specs.Inputs.{bad, store_then, parsed_within, numbered}
 use Rattle.input.proofs.Scans.{store_start, store_ends, store_cuts, store_last, store_more}
 use Rattle.input.proofs.read_within.Goals as goal
 

@@ -1,4 +1,4 @@
-use Rattle.std.proofs.Common.{◌+◌, Bool, cond, sym, ap, ◌∙◌, arith}
+use Rattle.std.proofs.Common.{◌+◌, Bool, cond, ap, ◌∙◌, arith}
 use Rattle.unacknowledged.proofs.Turns.{count_more, count_all, counts}
 use Rattle.unacknowledged.proofs.listing.haves.Goals as goal
 use Rattle.unacknowledged.proofs.listing.haves.Goals.{then-is_have, else-is_have}

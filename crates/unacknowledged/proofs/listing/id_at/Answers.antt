@@ -1,4 +1,3 @@
-use Rattle.std.proofs.Common.{sym, ◌∙◌}
 use Rattle.book.specs.Model.{model}
 use Rattle.unacknowledged.proofs.RowIds.{id_some, id_none}
 use Rattle.unacknowledged.proofs.listing.id_at.Goals as goal

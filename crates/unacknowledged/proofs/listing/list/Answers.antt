@@ -12,11 +12,11 @@ loop-event-preserved c =
     let xs = vec_items c.loop-event.commits in
     let ys = vec_items c.match-event.commits in
     elim c.match-event.branch [
-      | in-Have+then-not-is-acknowledged+in-ok-push w ↦
+      | in-Have+then-not-is_acknowledged+in_ok-push w ↦
           list_more all rows all c.loop-event.event-index _ xs ys _ _ c.loop-event-test.true w.in-Have.is
           (λ more. adds all rows w.in-Have.row w.commit_at-commit.result xs ys more w.commit_at-commit.ensures (sym w.if-not-is_acknowledged.ensures) (ap vec_items w.commits-is ∙ w.in_ok-push.ensures.items))
           c.loop-event.invariant
-      | in-Have+else-not-is-acknowledged w ↦
+      | in-Have+else-not-is_acknowledged w ↦
           list_more all rows all c.loop-event.event-index _ xs ys _ _ c.loop-event-test.true w.in-Have.is
           (λ more. passes all rows w.in-Have.row w.commit_at-commit.result xs ys more w.commit_at-commit.ensures (sym w.if-not-is_acknowledged.ensures) (ap vec_items w.commits-is))
           c.loop-event.invariant
