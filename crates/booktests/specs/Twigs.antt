@@ -1,5 +1,5 @@
 -- What the tests' source says of an id.
-use Rattle.std.specs.Prelude.{ℕ, cond, replicate, ◌==◌, slice_index}
+use Rattle.std.specs.Prelude.{cond, replicate, ◌==◌, slice_index}
 use Rattle.source.specs.declared.ObjectId.{ObjectId}
 use Rattle.source.specs.declared.Cause.TheVariants.{PastEnd}
 use Rattle.source.specs.declared.Fault.{Fault}
