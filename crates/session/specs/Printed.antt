@@ -1,5 +1,5 @@
 -- What a recorded walk prints.
-use Rattle.std.specs.Prelude.{◌≡◌, ℕ, suc, ◌+◌, ◌/◌, ◌%◌, Bool, true, false, cond, List, [], ◌∷◌, ◌++◌, Some, None, codes, decimal, Option, nat_lt}
+use Rattle.std.specs.Prelude.{◌≡◌, ℕ, suc, ◌+◌, ◌/◌, ◌%◌, cond, List, [], ◌∷◌, ◌++◌, Some, None, codes, decimal, Option, nat_lt}
 use Rattle.std.specs.List.{slice_get}
 use Rattle.book.specs.Denials
 use Rattle.model.specs.declared.Algorithm.{Algorithm}
@@ -9,7 +9,7 @@ use Rattle.model.specs.declared.Reply.TheVariants.{Done, Have, NoneLeft, Told, D
 use Rattle.model.specs.Book.{Row, Walk, Source}
 use Rattle.negotiate.specs.Numbers.{number_of}
 use Rattle.store.specs.Stores.{store_of}
-use Rattle.input.specs.Inputs.{Parsed, bad, walk, parsed, tag_of, calls_of}
+use Rattle.input.specs.Inputs.{Parsed, bad, walk, tag_of, calls_of}
 use Rattle.session.specs.Sessions.{Whole}
 
 -- two lower-case hex digits to a byte

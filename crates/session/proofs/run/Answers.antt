@@ -1,4 +1,4 @@
-use Rattle.std.proofs.Common.{◌≡◌, min, length, sym, refl, ap, ◌∙◌, arith}
+use Rattle.std.proofs.Common.{◌≡◌, min, length, arith}
 use Rattle.session.proofs.Sessions.{whole, written, begins}
 use Rattle.session.proofs.run.Goals as goal
 

@@ -1,4 +1,4 @@
-use Rattle.std.proofs.Common.{◌≡◌, ℕ, List, ◌++◌, string_bytes, sym, ap, ◌∙◌, arith}
+use Rattle.std.proofs.Common.{ℕ, List, ◌++◌, string_bytes, ap, ◌∙◌, arith}
 use Rattle.session.proofs.Prints.{lines_more, lines_all}
 use Rattle.session.proofs.transcript.lines.Goals as goal
 

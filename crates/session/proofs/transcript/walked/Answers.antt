@@ -1,4 +1,4 @@
-use Rattle.std.proofs.Common.{◌≡◌, string_bytes, sym, ap, ◌∙◌}
+use Rattle.std.proofs.Common.{string_bytes, ◌∙◌}
 use Rattle.session.proofs.Prints.{made_map, tells}
 use Rattle.session.proofs.transcript.walked.Goals as goal
 
