@@ -2,7 +2,7 @@
 use Rattle.std.proofs.Common.{◌≡◌, ℕ, zero, suc, ◌+◌, ◌<◌, ◌≤◌, Bool, true, false, cond, eqb, ltb, ◌⊎◌, List, [], ◌∷◌, map, ℤ, sym, refl, ap, ◌∙◌, subst, inl, inr, ⊎_elim, arith, eq-eqb, eqb-true}
 use lib.Signed.{lt_z}
 use Rattle.std.specs.List.Sorted.{IsPermutation}
-use Rattle.std.specs.List.{ContainsAt as Has, AllByRecursion as All}
+use Rattle.std.specs.List.{ContainsAt as Has, AllByRecursion}
 use Rattle.std.proofs.ByRecursion.{all-has, All-weaker, has_shuffled, all_shuffled}
 use Rattle.std.proofs.lemmas.Int.{ints}
 use Rattle.std.proofs.lemmas.List.Sums.{sum_by-cons}
@@ -55,7 +55,7 @@ module _ {V : Type 0} where
   -- each is drawn before all behind it
   abbrev pub Sorted : List (Place V) → Type 0
   Sorted [] = Unit {0}
-  Sorted (x ∷ xs) = All (λ y. before x y ≡ true) xs × Sorted xs
+  Sorted (x ∷ xs) = AllByRecursion (λ y. before x y ≡ true) xs × Sorted xs
 
   abbrev Other : Place V → Place V → Type 0
   Other p q = q.order ≡ p.order → ⊥
@@ -113,7 +113,7 @@ module _ {V : Type 0} where
   ordered_shuffled [] = IsPermutation-refl []
   ordered_shuffled (x ∷ xs) = IsPermutation-trans (x ∷ xs) (x ∷ ordered xs) (put x (ordered xs)) (IsPermutation-cons x xs (ordered xs) (ordered_shuffled xs)) (put_shuffled x (ordered xs))
 
-  put_sorted : (p : Place V) (xs : List (Place V)) → All (Other p) xs → Sorted xs → Sorted (put p xs)
+  put_sorted : (p : Place V) (xs : List (Place V)) → AllByRecursion (Other p) xs → Sorted xs → Sorted (put p xs)
   put_sorted p [] o s = (tt, tt)
   put_sorted p (x ∷ xs) o s = by (put_sorted p xs o.1 s.1) (before p x) refl
     where
@@ -136,11 +136,11 @@ module _ {V : Type 0} where
   unfolding many
   many_shuffled k xs ys h = sum_by-IsPermutation (λ (q : Place V). cond (eqb q.order k) 1 0) xs ys h
 
-  none_others : (p : Place V) (xs : List (Place V)) → many p.order xs ≡ 0 → All (Other p) xs
+  none_others : (p : Place V) (xs : List (Place V)) → many p.order xs ≡ 0 → AllByRecursion (Other p) xs
   none_others p [] h = tt
   none_others p (x ∷ xs) h = (λ e. omega (arith, many_here p.order x xs e), none_others p xs (omega (arith, many_tail p.order x xs)))
 
-  apart_head : (p : Place V) (xs : List (Place V)) → Apart (p ∷ xs) → All (Other p) xs
+  apart_head : (p : Place V) (xs : List (Place V)) → Apart (p ∷ xs) → AllByRecursion (Other p) xs
   apart_head p xs a = none_others p xs (omega (arith, a p.order, many_here p.order p xs refl))
 
   apart_tail : (p : Place V) (xs : List (Place V)) → Apart (p ∷ xs) → Apart xs
@@ -196,17 +196,17 @@ module _ {V : Type 0} where
       )
 
   -- what waits once the first has gone
-  pub drawn : (p : Place V) (xs ys : List (Place V)) → Apart xs → IsPermutation xs (p ∷ ys) → All (λ q. before q p ≡ false) xs → (ordered xs ≡ p ∷ ordered ys) × Apart ys
+  pub drawn : (p : Place V) (xs ys : List (Place V)) → Apart xs → IsPermutation xs (p ∷ ys) → AllByRecursion (λ q. before q p ≡ false) xs → (ordered xs ≡ p ∷ ordered ys) × Apart ys
   drawn p xs ys a h top =
       let a' = apart_shuffled xs (p ∷ ys) h a in
       let none = all_shuffled (λ q. before q p ≡ false) xs (p ∷ ys) h top in
       let firsts = first-all ys (apart_head p ys a') none.1 in
       (sym (ordered_same xs (p ∷ ys) a h) ∙ put_first p (ordered ys) (all_shuffled (λ q. before p q ≡ true) ys (ordered ys) (ordered_shuffled ys) firsts), apart_tail p ys a')
     where
-      first-all : (l : List (Place V)) → All (Other p) l → All (λ q. before q p ≡ false) l → All (λ q. before p q ≡ true) l
+      first-all : (l : List (Place V)) → AllByRecursion (Other p) l → AllByRecursion (λ q. before q p ≡ false) l → AllByRecursion (λ q. before p q ≡ true) l
       first-all [] o n = tt
       first-all (x ∷ l) o n = (total x p (λ e. o.0 (sym e)) n.0, first-all l o.1 n.1)
 
-      put_first : (p : Place V) (l : List (Place V)) → All (λ q. before p q ≡ true) l → put p l ≡ p ∷ l
+      put_first : (p : Place V) (l : List (Place V)) → AllByRecursion (λ q. before p q ≡ true) l → put p l ≡ p ∷ l
       put_first p [] t = refl
       put_first p (x ∷ l) t = ap (λ b. cond b (p ∷ x ∷ l) (x ∷ put p l)) t.0

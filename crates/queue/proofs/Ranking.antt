@@ -7,7 +7,7 @@ use Rattle.std.specs.Slice.Heapsort.{IsHeapWithin}
 use Rattle.std.specs.BinaryHeap.{lt_by_cmp}
 use Rattle.std.specs.BinaryHeap.Sift.{ComparesAt, IsGreaterChild, SiftsUp, SiftsDown}
 use Rattle.std.specs.BinaryHeap as std
-use Rattle.std.specs.List.{AllByRecursion as All}
+use Rattle.std.specs.List.{AllByRecursion}
 use Rattle.std.proofs.ByRecursion.{All-weaker}
 use Rattle.std.proofs.HeapSift.{greatest, either_child}
 use Rattle.queue.proofs.Drawn.{asym_false, chain, tied}
@@ -97,7 +97,7 @@ module _ {V : Type 0} where
   sunk xs ys n sinks h = out ys 0 n (sinks.1 (into xs 1 n h))
 
   -- the first is drawn before all
-  pub first_of : (xs : List (Place V)) (n : ℕ) (p : Place V) → 0 < n → n ≤ length xs → p ≡ get_or xs 0 p → Heaped xs n → All (λ q. before q p ≡ false) (take n xs)
+  pub first_of : (xs : List (Place V)) (n : ℕ) (p : Place V) → 0 < n → n ≤ length xs → p ≡ get_or xs 0 p → Heaped xs n → AllByRecursion (λ q. before q p ≡ false) (take n xs)
   unfolding Heaped std.IsHeap
   first_of xs n p z le is h =
       let ts = take n xs in

@@ -4,7 +4,7 @@ use Rattle.std.specs.declared.cmp.Ordering.TheVariants.{Less, Equal, Greater}
 use Rattle.std.specs.declared.cmp.Ordering.{Ordering}
 use Rattle.std.specs.Slice.Heapsort.{IsHeapWithin}
 use Rattle.std.specs.BinaryHeap.Sift.{IsGreaterChild}
-use Rattle.std.specs.List.{AllByRecursion as All}
+use Rattle.std.specs.List.{AllByRecursion}
 use Rattle.queue.specs.declared.entry.Entry.{Entry}
 use Rattle.queue.specs.declared.entry.Place.{Place}
 use Rattle.queue.specs.Places.{entry}
@@ -36,7 +36,7 @@ module _ {V : Type 0} where
 
   -- each number is below n
   abbrev pub Below : ℕ → List (Place V) → Type 0
-  Below n ps = All (λ p. p.order < n) ps
+  Below n ps = AllByRecursion (λ p. p.order < n) ps
 
   -- of the first `len`
   abbrev pub Numbered : ℕ → List (Place V) → ℕ → Type 0
