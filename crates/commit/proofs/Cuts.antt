@@ -61,11 +61,11 @@ words_both (b ∷ bs) u = step_by b bs u (eqb b 32) refl (words_both bs u)
 pub stamp_two : (us : List (List ℕ)) (v w : List ℕ) → stamp ((us ++ v ∷ []) ++ w ∷ []) ≡ cond (zoneb w) (moment_of v) None
 stamp_two [] v w = refl
 stamp_two (u ∷ []) v w = refl
-stamp_two (u ∷ t ∷ us) v w = stamp-more u t us v w (stamp_two (t ∷ us) v w)
+stamp_two (u ∷ t ∷ us) v w = stamp_more u t us v w (stamp_two (t ∷ us) v w)
   where
-    stamp-more : (u t : List ℕ) (us : List (List ℕ)) (v w : List ℕ) → stamp (((t ∷ us) ++ v ∷ []) ++ w ∷ []) ≡ cond (zoneb w) (moment_of v) None → stamp (((u ∷ t ∷ us) ++ v ∷ []) ++ w ∷ []) ≡ cond (zoneb w) (moment_of v) None
-    stamp-more u t [] v w e = e
-    stamp-more u t (s ∷ us) v w e = e
+    stamp_more : (u t : List ℕ) (us : List (List ℕ)) (v w : List ℕ) → stamp (((t ∷ us) ++ v ∷ []) ++ w ∷ []) ≡ cond (zoneb w) (moment_of v) None → stamp (((u ∷ t ∷ us) ++ v ∷ []) ++ w ∷ []) ≡ cond (zoneb w) (moment_of v) None
+    stamp_more u t [] v w e = e
+    stamp_more u t (s ∷ us) v w e = e
 
 pub stamp_bad : (us : List (List ℕ)) (w : List ℕ) → zoneb w ≡ false → stamp (us ++ w ∷ []) ≡ None
 stamp_bad [] w nay = refl

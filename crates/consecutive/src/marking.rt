@@ -2,7 +2,7 @@
 ghost use Rattle.std.specs.Prelude.{◌≡◌, ℕ, ◌+◌, ◌<◌, ◌≤◌, Bool, true, false, ◌||◌, ◌⊎◌, [], length, if◌then◌else◌, nat_lt};
 ghost use Rattle.model.specs.Book.{flags_at};
 ghost use Rattle.model.specs.Steps.{sees};
-ghost use Rattle.model.specs.Consecutive.{entered, commoned, waits, alone, Push, Mark as Marks-so, Marking};
+ghost use Rattle.model.specs.Consecutive.{entered, commoned, waits, alone, Push, Mark as MarksSo, Marking};
 ghost use Rattle.model.specs.Parts.{Looks, ended, Spread, SpreadOne, Visited};
 ghost use Rattle.model.specs.Steady.{Ext, common_rows};
 ghost use Rattle.model.specs.View.{unpack, Admits};
@@ -231,7 +231,7 @@ impl Algorithm {
         mode: Mark,
         ancestors: Ancestors,
     ) -> Result<(), Denial>
-        ensures is { Marks-so (S.meaning source.now) (itself mode) (all ancestors) id (walk self.old) (ended result (walk self.new)) }
+        ensures is { MarksSo (S.meaning source.now) (itself mode) (all ancestors) id (walk self.old) (ended result (walk self.new)) }
         ensures grows { Ext (walk self.old) (walk self.new) }
     {
         let Some(row) = self.lookup(source, id)? else {

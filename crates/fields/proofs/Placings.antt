@@ -198,12 +198,12 @@ module _ (store id : List ℕ) where
   at_end at le = record { size = 0; others = done (drop at store) 0 (drop_all at store le) refl }
 
   module _ (at n : ℕ) (lt : at < length store) (go : (e : ℕ) → at < e → e ≤ length store → Shown (scan n id store e) e (drop e store)) where
-    by-same : (name t : List ℕ) (k e : ℕ) → good name t k e ≡ pair_at store at → (b : Bool) → bytes_eq name id ≡ b → Shown (cond b (At at) (scan n id store e)) at (drop at store)
-    by-same name t k e is true same =
+    by_same : (name t : List ℕ) (k e : ℕ) → good name t k e ≡ pair_at store at → (b : Bool) → bytes_eq name id ≡ b → Shown (cond b (At at) (scan n id store e)) at (drop at store)
+    by_same name t k e is true same =
         let g = good_entry (drop at store) at name t k e is in
         let z : name ≡ id = (bytes_eq-Decides name id).0 same in
         (0, omega arith, record { text = t; left = drop at store; rest = g.0; others = done (drop at store) 0 refl refl; entry = subst (λ (i : List ℕ). Entry i t g.0 (drop at store)) z g.1 })
-    by-same name t k e is false same =
+    by_same name t k e is false same =
         let g = good_entry (drop at store) at name t k e is in
         let sizes = entry_sizes name t g.0 (drop at store) g.1 in
         let left = length-drop at store in
@@ -213,12 +213,12 @@ module _ (store id : List ℕ) where
         prepend (scan n id store e) name t g.0 (drop at store) at g.1 (λ z. absurd (let q : ◌≡◌ {A = Bool} true false = sym (same_true name id z) ∙ same in cc))
         (subst (λ (i : ℕ). Shown (scan n id store e) i g.0) (sym end) (subst (Shown (scan n id store e) e) rest s))
 
-    by-pair : (p : Pairing) → p ≡ pair_at store at → Shown (go_on (scan n id store) id at p) at (drop at store)
-    by-pair (bad c p) is = tt
-    by-pair (good name t k e) is = by-same name t k e is (bytes_eq name id) refl
+    by_pair : (p : Pairing) → p ≡ pair_at store at → Shown (go_on (scan n id store) id at p) at (drop at store)
+    by_pair (bad c p) is = tt
+    by_pair (good name t k e) is = by_same name t k e is (bytes_eq name id) refl
 
   by_end : (n at : ℕ) (b : Bool) → ltb at (length store) ≡ b → ((e : ℕ) → at < e → e ≤ length store → Shown (scan n id store e) e (drop e store)) → Shown (cond b (go_on (scan n id store) id at (pair_at store at)) Absent) at (drop at store)
-  by_end n at true is go = by-pair at n (ltb-true at (length store) is) go (pair_at store at) refl
+  by_end n at true is go = by_pair at n (ltb-true at (length store) is) go (pair_at store at) refl
   by_end n at false is go = at_end at (ltb-false at (length store) is)
 
   shown : (n at : ℕ) → length store - at ≤ n → Shown (scan n id store at) at (drop at store)

@@ -200,12 +200,12 @@ module _ {V : Type 0} where
   drawn p xs ys a h top =
       let a' = apart_shuffled xs (p ∷ ys) h a in
       let none = all_shuffled (λ q. before q p ≡ false) xs (p ∷ ys) h top in
-      let firsts = first-all ys (apart_head p ys a') none.1 in
+      let firsts = first_all ys (apart_head p ys a') none.1 in
       (sym (ordered_same xs (p ∷ ys) a h) ∙ put_first p (ordered ys) (all_shuffled (λ q. before p q ≡ true) ys (ordered ys) (ordered_shuffled ys) firsts), apart_tail p ys a')
     where
-      first-all : (l : List (Place V)) → AllByRecursion (Other p) l → AllByRecursion (λ q. before q p ≡ false) l → AllByRecursion (λ q. before p q ≡ true) l
-      first-all [] o n = tt
-      first-all (x ∷ l) o n = (total x p (λ e. o.0 (sym e)) n.0, first-all l o.1 n.1)
+      first_all : (l : List (Place V)) → AllByRecursion (Other p) l → AllByRecursion (λ q. before q p ≡ false) l → AllByRecursion (λ q. before p q ≡ true) l
+      first_all [] o n = tt
+      first_all (x ∷ l) o n = (total x p (λ e. o.0 (sym e)) n.0, first_all l o.1 n.1)
 
       put_first : (p : Place V) (l : List (Place V)) → AllByRecursion (λ q. before p q ≡ true) l → put p l ≡ p ∷ l
       put_first p [] t = refl

@@ -1,6 +1,6 @@
 -- A state as the rules see it, and what they do not see: the room and the numbers of the two queues.
 use Rattle.std.specs.Prelude.{◌≡◌, ℕ, Bool, ◌||◌, [], ◌∷◌, Some, None, Option, ◌==◌}
-use Rattle.std.proofs.Math.Option as model-option
+use Rattle.std.proofs.Math.Option as model_option
 use Rattle.book.specs.Model.{model}
 use Rattle.queue.specs.declared.entry.Entry.{Entry}
 use Rattle.queue.specs.Queue.{waiting, room, entered}
@@ -51,9 +51,9 @@ abbrev pub is_mask : ℕ → Bool
 is_mask m = m == 4 || (m == 8 || (m == 16 || (m == 40 || (m == 12 || m == 72))))
 
 -- a row that an id has
-abbrev pub row_of : model-option.Option ℕ → Option ℕ
-row_of model-option.none = None
-row_of (model-option.some k) = Some k
+abbrev pub row_of : model_option.Option ℕ → Option ℕ
+row_of model_option.none = None
+row_of (model_option.some k) = Some k
 
 -- what a draw takes: the first that waits, or nothing where none does
 abbrev pub Drew : Walk → Option ℕ → Walk → Type 0
