@@ -1,5 +1,5 @@
 -- A book as its user sees it, and a lookup in it.
-use Rattle.std.specs.Prelude.{◌≡◌, ℕ, zero, suc, ◌+◌, Bool, true, false, cond, List, [], ◌∷◌, ◌++◌, map, length, get_or, take, drop, ℤ, pos, Some, None, Ok, Err, vec_items, Option, Result, bit_or, nat_lt, slice_index_or}
+use Rattle.std.specs.Prelude.{◌≡◌, ℕ, zero, suc, ◌+◌, ◌≤◌, Bool, true, false, cond, List, [], ◌∷◌, ◌++◌, map, length, get_or, take, drop, ℤ, pos, Some, None, Ok, Err, vec_items, vec_len, Option, Result, bit_or, nat_lt, slice_index_or}
 use Rattle.std.proofs.Math.Seq.{paste}
 use Rattle.std.specs.List.{slice_get}
 use Rattle.source.specs.declared.ObjectId.{ObjectId}
@@ -77,6 +77,11 @@ query m i absent = record { book = m; answer = Ok None }
 query m i (failing f) = record { book = halted m; answer = Err (denial.Failing f) }
 query m i (commit d ps) = enter m (fresh i d ps)
 
+-- a denial stops the walk
+abbrev pub stopping : Result (Option ℕ) Denial → Model → Model
+stopping (Ok o) m = m
+stopping (Err d) m = halted m
+
 abbrev pub found : Option ℕ → Model → Looked → Looked
 found None m l = l
 found (Some k) m l = record { book = m; answer = Ok (Some k) }
@@ -85,7 +90,11 @@ found (Some k) m l = record { book = m; answer = Ok (Some k) }
 abbrev pub looked_up : (ObjectId → Meaning) → ObjectId → Model → Looked
 looked_up meaning i m = found (place i (ids_of m) 0) m (query m i (meaning i))
 
--- what a read of the row with a number answers
+-- the row with a number, where it is taken
+abbrev pub row_at : Model → ℕ → Option Entry
+row_at m k = slice_get m.entries k
+
+-- what a read of it answers
 abbrev pub reading : {X Y : Type 0} → (X → Y) → Option X → Result Y Denial
 reading f None = Err NoSuchRow
 reading f (Some e) = Ok (f e)
@@ -133,6 +142,13 @@ renumber o t e = record { id = e.id; date = e.date; parents = e.parents; origina
 abbrev pub skipped : Model → ℕ → ℕ → ℕ → Model
 skipped m k o t = holding m (altered (renumber o t) m.entries k)
 
+abbrev pub rewrite : Metadata → Entry → Entry
+rewrite d e = record { id = e.id; date = e.date; parents = e.parents; original = d.original_ttl; ttl = d.ttl; flags = d.flags.bits }
+
+-- the row `k` has this metadata
+abbrev pub written : Model → ℕ → Metadata → Model
+written m k d = holding m (altered (rewrite d) m.entries k)
+
 -- what a note leaves and answers
 pub record Done : Type 0 where
   pub book : Model
@@ -142,6 +158,10 @@ abbrev pub marked : Model → Result (Option ℕ) Denial → ℕ → Done
 marked m (Err d) mask = record { book = m; answer = Err d }
 marked m (Ok None) mask = record { book = m; answer = Ok tt }
 marked m (Ok (Some k)) mask = record { book = flagged m k mask; answer = Ok tt }
+
+-- whether the next call is accepted
+abbrev pub going : Model → Result (Unit {0}) Denial
+going m = cond m.stopped (Err Stopped) (Ok tt)
 
 -- the id is looked up, and its row, where there is one, gains the bits of `mask`
 abbrev pub noted : (ObjectId → Meaning) → ObjectId → ℕ → Model → Done
@@ -171,13 +191,13 @@ pub record Copied (b c : Book) (ps : List ObjectId) (n : ℕ) : Type 0 where
 
 -- what is known of a row that was read
 abbrev pub Read : Book → ℕ → Result Row Denial → Type 0
-Read b k (Ok x) = (slice_get (model b).entries k ≡ Some (entry (vec_items b.links) x)) × (slice_index_or (model b).entries k no_entry ≡ entry (vec_items b.links) x) × (length (entry (vec_items b.links) x).parents ≡ x.count)
-Read b k (Err d) = (slice_get (model b).entries k ≡ None) × (slice_index_or (model b).entries k no_entry ≡ no_entry) × (d ≡ NoSuchRow)
+Read b k (Ok x) = (row_at (model b) k ≡ Some (entry (vec_items b.links) x)) × (slice_index_or (model b).entries k no_entry ≡ entry (vec_items b.links) x) × (length (entry (vec_items b.links) x).parents ≡ x.count) × (x.first + x.count ≤ vec_len b.links)
+Read b k (Err d) = (row_at (model b) k ≡ None) × (slice_index_or (model b).entries k no_entry ≡ no_entry) × (d ≡ NoSuchRow)
 
 -- what is known of a parent that was read
 abbrev pub Linked : Book → ℕ → ℕ → Option ObjectId → Type 0
-Linked b k n (Some p) = (reading_parent n (slice_get (model b).entries k) ≡ Ok p) × (slice_index_or (get_or (model b).entries k no_entry).parents n no_id ≡ p)
-Linked b k n None = (reading_parent n (slice_get (model b).entries k) ≡ Err NoSuchRow) × (slice_index_or (get_or (model b).entries k no_entry).parents n no_id ≡ no_id)
+Linked b k n (Some p) = (reading_parent n (row_at (model b) k) ≡ Ok p) × (slice_index_or (get_or (model b).entries k no_entry).parents n no_id ≡ p)
+Linked b k n None = (reading_parent n (row_at (model b) k) ≡ Err NoSuchRow) × (slice_index_or (get_or (model b).entries k no_entry).parents n no_id ≡ no_id)
 
 -- whether a commit with `n` parents finds a row and links, of which so many are taken
 abbrev pub room_for : ℕ → ℕ → ℕ → ℕ → ℕ → Result (Unit {0}) Denial

@@ -11,7 +11,11 @@ mod lookup;
 mod making;
 mod rows;
 
-// The first `used` rows and the first `linked` links are taken; `limit` rows can be.
+// A row's number plus one fits 16 bits.
+pub const MOST_ROWS: usize = 65_535;
+
+// The first `used` rows and the first `linked` links are taken; `limit` rows can be. The caller hands the buffers over,
+// since nothing may allocate while a walk runs, so the lengths stand beside them.
 #[derive(Drop)]
 pub struct Book {
     rows: Vec<Row>,
@@ -22,7 +26,7 @@ pub struct Book {
     stopped: bool,
     ghost within: { used ≤ limit },
     ghost lent: { limit ≤ vec_len rows },
-    // A row's number plus one fits 16 bits.
+    // At most `MOST_ROWS`.
     ghost narrow: { limit ≤ 65535 },
     ghost room: { linked ≤ vec_len links },
     ghost inside: { Inside rows.items used linked },

@@ -6,8 +6,9 @@ ghost use Rattle.book.specs.Rows.{empty_row, metadata, taken_row};
 
 use source::{Fault, ObjectId};
 
-// What a walk has learned of a commit, a bit for each fact.
-#[derive(Clone, Copy)]
+// What a walk has learned of a commit, a bit for each fact. Written by hand, since `bitflags` asks for an impl that is
+// longer than the two questions.
+#[derive(Clone, Copy, Debug, Default, PartialEq, Eq)]
 pub struct Flags {
     pub bits: u8,
 }
@@ -29,11 +30,17 @@ impl Flags {
     // The remote has advertised it.
     pub const ADVERTISED: Flags = Flags { bits: 64 };
 
-    pub const COMMON_AND_SEEN: Flags = Flags { bits: 12 };
+    pub const COMMON_AND_SEEN: Flags = Flags {
+        bits: Flags::COMMON.bits | Flags::SEEN.bits,
+    };
 
-    pub const COMMON_REF_AND_SEEN: Flags = Flags { bits: 40 };
+    pub const COMMON_REF_AND_SEEN: Flags = Flags {
+        bits: Flags::COMMON_REF.bits | Flags::SEEN.bits,
+    };
 
-    pub const ADVERTISED_AND_SEEN: Flags = Flags { bits: 72 };
+    pub const ADVERTISED_AND_SEEN: Flags = Flags {
+        bits: Flags::ADVERTISED.bits | Flags::SEEN.bits,
+    };
 
     // Whether a bit stands in both.
     pub fn intersects(self, other: Flags) -> bool
@@ -53,7 +60,7 @@ impl Flags {
 }
 
 // What the user of a book says of a commit.
-#[derive(Clone, Copy)]
+#[derive(Clone, Copy, Debug, PartialEq, Eq)]
 pub enum Remark {
     Complete,
     Alternate,
@@ -71,7 +78,7 @@ impl Remark {
 }
 
 // What the walks keep of a commit: the skip numbers and the flags.
-#[derive(Clone, Copy)]
+#[derive(Clone, Copy, Debug, Default, PartialEq, Eq)]
 pub struct Metadata {
     pub original_ttl: u16,
     pub ttl: u16,
@@ -79,20 +86,13 @@ pub struct Metadata {
 }
 
 impl Metadata {
-    const NONE: Metadata = Metadata {
-        original_ttl: 0,
-        ttl: 0,
-        flags: Flags::NONE,
-    };
-
     // The same with the bits of `mask` set.
     pub(crate) fn flagged(self, mask: Flags) -> Metadata
         ensures { result ≡ metadata self.original_ttl self.ttl (bit_or self.flags.bits mask.bits) }
     {
         Metadata {
-            original_ttl: self.original_ttl,
-            ttl: self.ttl,
             flags: self.flags.union(mask),
+            ..self
         }
     }
 
@@ -103,38 +103,38 @@ impl Metadata {
         Metadata {
             original_ttl,
             ttl,
-            flags: self.flags,
+            ..self
         }
     }
 }
 
-// A commit of the book. Its parents' ids are `count` links from `first` on.
-#[derive(Clone, Copy)]
+// A commit of the book. Its parents' ids are `count` links from `first` on: a row is of one size, and nothing may
+// allocate while a walk runs.
+#[derive(Clone, Copy, Debug, PartialEq, Eq)]
 pub struct Row {
     pub(crate) date: i64,
     pub(crate) first: usize,
     pub(crate) count: usize,
     pub(crate) id: ObjectId,
-    // Of the bucket with this row's number: the row that came in last, plus one, or 0.
+    // Of the bucket with this row's number: the row that came in last, plus one, or 0. An `Option` takes four bytes, even
+    // of a `NonZeroU16`, and a row would have more than 56.
     pub(crate) head: u16,
     // The row of the same bucket that came in before, plus one, or 0.
     pub(crate) next: u16,
     pub(crate) metadata: Metadata,
 }
 
-pub(crate) const NO_ID: ObjectId = ObjectId { bytes: [0; 20] };
-
 impl Row {
     // A row of zeroes, to make a buffer of.
     pub fn empty() -> Row
         ensures { result ≡ empty_row }
     {
-        let metadata = Metadata::NONE;
+        let metadata = Metadata::default();
         Row {
             date: 0,
             first: 0,
             count: 0,
-            id: NO_ID,
+            id: ObjectId::NULL,
             head: 0,
             next: 0,
             metadata,
@@ -150,15 +150,15 @@ impl Row {
             first,
             count,
             id,
-            head: self.head,
             next,
-            metadata: Metadata::NONE,
+            metadata: Metadata::default(),
+            ..self
         }
     }
 }
 
 // What is read of a row at once: its date, its number of parents, its flags.
-#[derive(Clone, Copy)]
+#[derive(Clone, Copy, Debug, PartialEq, Eq)]
 pub struct Head {
     pub date: i64,
     pub parents: usize,
@@ -166,7 +166,7 @@ pub struct Head {
 }
 
 // Why a call is refused.
-#[derive(Clone, Copy)]
+#[derive(Clone, Copy, Debug, PartialEq, Eq)]
 pub enum Denial {
     // A denial stopped the walk before this call.
     Stopped,
@@ -189,6 +189,7 @@ pub enum Denial {
 }
 
 impl Denial {
+    // The number by which a denial is reported: a match, since `Failing` carries a fault.
     pub fn number(self) -> u8
         ensures { result ≡ number_of self }
     {
@@ -219,10 +220,9 @@ impl Denial {
     pub fn stops(self) -> bool
         ensures { result ≡ stops_walk self }
     {
-        match self {
-            Denial::Failing(_) | Denial::RowsFull | Denial::LinksFull | Denial::MissingParent =>
-                true,
-            _ => false,
-        }
+        matches!(
+            self,
+            Denial::Failing(_) | Denial::RowsFull | Denial::LinksFull | Denial::MissingParent
+        )
     }
 }

@@ -1,5 +1,5 @@
 // Each test goes over a small table of cases.
-use crate::twig::Twig;
+use crate::twig::{Commit, Twig};
 use book::book::Book;
 use book::types::{Denial, Flags, Remark, Row};
 use queue::entry::Place;
@@ -7,7 +7,7 @@ use queue::queue::Queue;
 use source::{Cause, Fault, ObjectId, Source};
 use std::test::Fail;
 
-// The id of twenty times this byte.
+// The id of twenty times this byte. The other tests have this line too: it is no part of a library.
 fn id(byte: u8) -> ObjectId {
     ObjectId { bytes: [byte; 20] }
 }
@@ -15,30 +15,23 @@ fn id(byte: u8) -> ObjectId {
 // A source whose commits have this date and so many parents, all of them the id of nines.
 fn twig(date: i64, count: usize) -> Twig {
     Twig {
-        date,
-        count,
-        parent: id(9),
-        broken: false,
+        says: Ok(Commit {
+            date,
+            count,
+            parent: id(9),
+        }),
     }
 }
+
+// What a source finds that fails.
+const FAULT: Fault = Fault {
+    cause: Cause::PastEnd,
+    place: 7,
+    layer: 1,
+};
 
 // A source that fails.
-fn broken() -> Twig {
-    Twig {
-        date: 0,
-        count: 0,
-        parent: id(9),
-        broken: true,
-    }
-}
-
-// The number of a denial, or 0 where there is none.
-fn denied<T: Drop>(res: Result<T, Denial>) -> u8 {
-    match res {
-        Ok(_) => 0,
-        Err(denial) => denial.number(),
-    }
-}
+const BROKEN: Twig = Twig { says: Err(FAULT) };
 
 // A book of so many rows and links, whose buffers held something.
 fn book_of(rt: &HostRuntime, rows: usize, links: usize) -> Result<Book, Fail> {
@@ -49,15 +42,10 @@ fn book_of(rt: &HostRuntime, rows: usize, links: usize) -> Result<Book, Fail> {
 
 #[test]
 fn denials_have_their_numbers(rt: HostRuntime) {
-    let fault = Fault {
-        cause: Cause::PastEnd,
-        place: 7,
-        layer: 1,
-    };
     let table = [
         (Denial::Stopped, 1u8, false),
         (Denial::NotSeen, 2, false),
-        (Denial::Failing(fault), 3, true),
+        (Denial::Failing(FAULT), 3, true),
         (Denial::RowsFull, 4, true),
         (Denial::LinksFull, 5, true),
         (Denial::MissingParent, 6, true),
@@ -81,7 +69,7 @@ fn rows_come_in_and_are_read(rt: HostRuntime) -> Result<(), Fail> {
         book.lookup(&twig(1, 1), id(0)).ok(),
         book.lookup(&twig(-5, 2), id(1)).ok(),
         book.lookup(&twig(3, 1), id(2)).ok(),
-        book.lookup(&broken(), id(1)).ok(),
+        book.lookup(&BROKEN, id(1)).ok(),
     ];
     assert_eq!(rt;
         looked,
@@ -100,9 +88,8 @@ fn rows_come_in_and_are_read(rt: HostRuntime) -> Result<(), Fail> {
         book.parent_of(1, 0),
         book.parent_of(1, 1),
     ];
-    for (parent, byte) in parents.iter().zip([9u8, 9, 9, 0]) {
-        assert_eq!(rt; parent.bytes[0], byte);
-    }
+    assert_eq!(rt; parents, [id(9), id(9), id(9), ObjectId::NULL]);
+    assert_eq!(rt; book.row_count(), 2);
     Ok(())
 }
 
@@ -111,53 +98,54 @@ fn stray_reads_are_denied(rt: HostRuntime) -> Result<(), Fail> {
     let mut book = book_of(&rt, 3, 1)?;
     assert_eq!(rt; book.lookup(&twig(1, 1), id(1)).ok(), Some(Some(0)));
     for row in [1usize, 2, 65535] {
-        let numbers = [
-            denied(book.id(row)),
-            denied(book.date(row)),
-            denied(book.metadata(row)),
-            denied(book.flags(row)),
-            denied(book.skip(row)),
-            denied(book.parent_count(row)),
-            denied(book.parent(row, 0)),
+        let denials = [
+            book.id(row).err(),
+            book.date(row).err(),
+            book.metadata(row).err(),
+            book.flags(row).err(),
+            book.skip(row).err(),
+            book.parent_count(row).err(),
+            book.parent(row, 0).err(),
         ];
-        assert_eq!(rt; numbers, [9; 7]);
+        assert_eq!(rt; denials, [Some(Denial::NoSuchRow); 7]);
     }
     assert_eq!(rt;
         (
-            denied(book.parent(0, 0)),
-            denied(book.parent(0, 1)),
+            book.parent(0, 0).err(),
+            book.parent(0, 1).err(),
             book.is_stopped(),
         ),
-        (0, 9, false)
+        (None, Some(Denial::NoSuchRow), false)
     );
     Ok(())
 }
 
 #[test]
 fn a_denied_lookup_stops_the_walk(rt: HostRuntime) -> Result<(), Fail> {
-    // Rows, links and source; the denial's number.
+    // Rows, links and source; the denial.
     let table = [
-        (1usize, 1usize, broken(), 3u8),
-        (0, 0, broken(), 3),
-        (0, 9, twig(1, 1), 4),
-        (0, 0, twig(1, 1), 4),
-        (9, 1, twig(1, 2), 5),
-        (1, 0, twig(1, 1), 5),
-        (1, 1, twig(1, 1), 0),
+        (1usize, 1usize, BROKEN, Some(Denial::Failing(FAULT))),
+        (0, 0, BROKEN, Some(Denial::Failing(FAULT))),
+        (0, 9, twig(1, 1), Some(Denial::RowsFull)),
+        (0, 0, twig(1, 1), Some(Denial::RowsFull)),
+        (9, 1, twig(1, 2), Some(Denial::LinksFull)),
+        (1, 0, twig(1, 1), Some(Denial::LinksFull)),
+        (1, 1, twig(1, 1), None),
     ];
-    for (rows, links, source, number) in table {
+    for (rows, links, source, denial) in table {
         let mut book = book_of(&rt, rows, links)?;
-        let first = denied(book.lookup(&source, id(1)));
-        let noted = denied(book.note(&twig(1, 0), id(0), Remark::Complete));
-        let stopped = number > 0;
+        let first = book.lookup(&source, id(1)).err();
+        let noted = book.note(&twig(1, 0), id(0), Remark::Complete).err();
+        let stopped = denial.is_some();
         assert_eq!(rt;
             (
                 first,
-                noted > 0,
+                noted.is_some(),
                 book.is_stopped(),
+                book.going().is_err(),
                 book.find(id(1)).is_none(),
             ),
-            (number, stopped, stopped, stopped)
+            (denial, stopped, stopped, stopped, stopped)
         );
     }
     Ok(())
@@ -168,19 +156,16 @@ fn flags_and_skip_numbers_are_written(rt: HostRuntime) -> Result<(), Fail> {
     let mut book = book_of(&rt, 1, 0)?;
     let source = twig(1, 0);
     let notes = [
-        denied(book.note(&source, id(1), Remark::Alternate)),
-        denied(book.note(&source, id(1), Remark::Complete)),
+        book.note(&source, id(1), Remark::Alternate),
+        book.note(&source, id(1), Remark::Complete),
     ];
-    assert_eq!(rt; notes, [0, 0]);
-    let old = book
-        .set_flags(0, Flags::COMMON_REF_AND_SEEN)
-        .ok()
-        .unwrap_or(Flags::NONE);
-    let set = denied(book.set_skip(0, 5, 4));
+    assert_eq!(rt; notes, [Ok(()), Ok(())]);
+    let old = book.set_flags(0, Flags::COMMON_REF_AND_SEEN);
+    let set = book.set_skip(0, 5, 4);
     let flags = book.head(0).flags;
     assert_eq!(rt;
-        [old.bits, set, flags.bits],
-        [3, 0, 43],
+        (old, set, flags),
+        (Ok(Flags { bits: 3 }), Ok(()), Flags { bits: 43 }),
         "the flags before and after"
     );
     assert_eq!(rt; book.skip(0).ok(), Some((5, 4)));
@@ -197,7 +182,7 @@ fn flags_and_skip_numbers_are_written(rt: HostRuntime) -> Result<(), Fail> {
 #[test]
 fn buffers_come_back(rt: HostRuntime) -> Result<(), Fail> {
     let mut book = book_of(&rt, 3, 5)?;
-    assert_eq!(rt; denied(book.lookup(&twig(1, 2), id(1))), 0);
+    assert_eq!(rt; book.lookup(&twig(1, 2), id(1)), Ok(Some(0)));
     let (rows, links) = book.into_buffers();
     assert_eq!(rt; [rows.len(), links.len()], [3, 5]);
     // The same buffers serve again, and nothing of the first book is left.

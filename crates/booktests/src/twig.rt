@@ -1,16 +1,39 @@
 // A source that says the same of every id but those that begin with 0, which it lacks.
 ghost use Rattle.std.specs.Prelude.{◌≡◌};
-ghost use Rattle.booktests.specs.Twigs.{says_of};
+ghost use Rattle.std.specs.Option.{option_and_then};
+ghost use Rattle.std.specs.Result.{result_ok};
+ghost use Rattle.booktests.specs.Twigs.{says_of, told_by};
 
-use source::{Cause, Fault, Kind, ObjectId, Source};
+use source::{Fault, Kind, ObjectId, Source};
 
-// A commit with `count` times the same parent; a broken source fails in its place.
-#[derive(Clone, Copy)]
-pub struct Twig {
+// A commit with `count` times the same parent.
+#[derive(Clone, Copy, Debug, PartialEq, Eq)]
+pub struct Commit {
     pub date: i64,
     pub count: usize,
     pub parent: ObjectId,
-    pub broken: bool,
+}
+
+// What is said of each id that the source has.
+#[derive(Clone, Copy, Debug, PartialEq, Eq)]
+pub struct Twig {
+    pub says: Result<Commit, Fault>,
+}
+
+impl Twig {
+    // What is said of an id, where the source has it.
+    fn told(&self, id: ObjectId) -> Option<Result<Commit, Fault>>
+        ensures { result ≡ told_by self.now id }
+    {
+        (id.bytes[0] != 0).then_some(self.says)
+    }
+
+    // The commit of an id, where it has one.
+    fn commit(&self, id: ObjectId) -> Option<Commit>
+        ensures { result ≡ option_and_then result_ok (told_by self.now id) }
+    {
+        self.told(id)?.ok()
+    }
 }
 
 impl Source for Twig {
@@ -19,57 +42,28 @@ impl Source for Twig {
     ghost layers = { λ s. 1 };
 
     fn kind(&self, id: ObjectId) -> Kind {
-        if id.bytes[0] == 0 {
-            return Kind::Absent;
-        }
-        if self.broken {
-            Kind::Failing
-        } else {
-            Kind::Commit
+        match self.told(id) {
+            None => Kind::Absent,
+            Some(Err(_)) => Kind::Failing,
+            Some(Ok(_)) => Kind::Commit,
         }
     }
 
     fn fault(&self, id: ObjectId) -> Option<Fault> {
-        if id.bytes[0] == 0 {
-            return None;
-        }
-        if self.broken {
-            Some(Fault {
-                cause: Cause::PastEnd,
-                place: 7,
-                layer: 1,
-            })
-        } else {
-            None
-        }
+        self.told(id)?.err()
     }
 
     fn date(&self, id: ObjectId) -> Option<i64> {
-        if id.bytes[0] == 0 {
-            return None;
-        }
-        if self.broken { None } else { Some(self.date) }
+        Some(self.commit(id)?.date)
     }
 
     fn parent_count(&self, id: ObjectId) -> Option<usize> {
-        if id.bytes[0] == 0 {
-            return None;
-        }
-        if self.broken { None } else { Some(self.count) }
+        Some(self.commit(id)?.count)
     }
 
     fn parent(&self, id: ObjectId, n: usize) -> Option<ObjectId> {
-        if id.bytes[0] == 0 {
-            return None;
-        }
-        if self.broken {
-            return None;
-        }
-        if n < self.count {
-            Some(self.parent)
-        } else {
-            None
-        }
+        let commit = self.commit(id)?;
+        (n < commit.count).then_some(commit.parent)
     }
 
     fn depth(&self) -> u8 {

@@ -21,15 +21,15 @@ const BEFORE_LEAST: u128 = 5_461_633_792;
 const MARCH_0_TO_1970: u64 = 719_468;
 
 // A day: the year counts from the beginning of the added years.
-#[derive(Clone, Copy)]
+#[derive(Clone, Copy, Debug, PartialEq, Eq, PartialOrd, Ord, Hash)]
 struct Date {
     year: u64,
     month: u64,
     day: u64,
 }
 
-// A moment by the calendar.
-#[derive(Clone, Copy)]
+// A moment by the calendar, the earlier before the later.
+#[derive(Clone, Copy, Debug, PartialEq, Eq, PartialOrd, Ord, Hash)]
 pub struct Moment {
     date: Date,
     second: u64,
@@ -42,11 +42,11 @@ fn date_of(days: u64) -> Date
 {
     let since = days + MARCH_0_TO_1970;
     let in_cycle = since % CYCLE_DAYS;
-    let leaps = (in_cycle / 1_460).saturating_sub(in_cycle / 36_524);
-    let year = (in_cycle - leaps).saturating_sub(in_cycle / 146_096) / 365;
-    let in_year = in_cycle.saturating_sub(365 * year + year / 4 - year / 100);
+    let leaps = in_cycle / 1_460 - in_cycle / 36_524 + in_cycle / 146_096;
+    let year = (in_cycle - leaps) / 365;
+    let in_year = in_cycle - (365 * year + year / 4 - year / 100);
     let from_march = (5 * in_year + 2) / 153;
-    let day = in_year.saturating_sub((153 * from_march + 2) / 5) + 1;
+    let day = in_year - (153 * from_march + 2) / 5 + 1;
     let month = if from_march < 10 {
         from_march + 3
     } else {
@@ -62,7 +62,7 @@ fn date_of(days: u64) -> Date
 
 // The moment of so many seconds after the least one.
 fn after_least(seconds: u64) -> Moment {
-    let all = seconds as u128 + BEFORE_LEAST;
+    let all = u128::from(seconds) + BEFORE_LEAST;
     Moment {
         date: date_of((all / DAY) as u64),
         second: (all % DAY) as u64,
@@ -71,8 +71,7 @@ fn after_least(seconds: u64) -> Moment {
 
 // The moment of so many seconds after the beginning of 1970.
 pub fn at(seconds: i64) -> Moment {
-    // The bits of a signed number, with its sign turned, count up from the least one.
-    after_least(u64::from_le_bytes(seconds.to_le_bytes()) ^ (1 << 63))
+    after_least(seconds.abs_diff(i64::MIN))
 }
 
 impl fmt::Display for Moment {
@@ -101,7 +100,7 @@ mod tests {
     fn shown(rt: &(impl Abort + AllocGlobal), seconds: i64, text: &str) -> Result<(), Fail> {
         let moment = at(seconds);
         let shown = format!(in rt.alloc(); "{moment}")?;
-        assert!(rt; shown.as_str() == text);
+        assert_eq!(rt; shown.as_str(), text);
         Ok(())
     }
 

@@ -3,14 +3,12 @@ use Rattle.std.proofs.Common.{◌≡◌, ℕ, ◌+◌, ◌≤◌, Bool, true, fa
 use lib.Seq.{append_snoc}
 use borrow.Author.Tests.{eqb-false}
 use Rattle.std.proofs.lemmas.List.{append-nil}
+use Rattle.std.specs.Option.{is_some}
 use Rattle.source.specs.declared.ObjectId.{ObjectId}
-use Rattle.commit.specs.Layout.{onto, lines_of, words_of, behind, nameb, name_of, named, moment_of, zoneb, stamp, stamped, behind_line, ended, committer_of, closed, authored, fathered, parents_of, planted, commit_of, reading_of, Reading, fits, misfits}
+use Rattle.commit.specs.Layout.{onto, lines_of, words_of, behind, name_of, named, moment_of, zoneb, stamp, stamped, behind_line, ended, committer_of, closed, authored, fathered, parents_of, planted, commit_of, reading_of, Reading, fits, misfits}
 use Rattle.commit.specs.Laws.{Lacks, Spaced, AllNames, parent_lines, Written, Composed}
 use Rattle.commit.proofs.Cuts.{worded}
-use Rattle.commit.proofs.Fronts.{behind_is}
-
-absurd : {G : Type 0} → ◌≡◌ {A = ℕ} 0 1 → G
-absurd e = elim (let no : ⊥ = omega arith in no) [ ]
+use Rattle.commit.proofs.Fronts.{behind_is, named_some}
 
 -- the first line of a text, cut off at its line feed
 record Cut (t l : List ℕ) (ls : List (List ℕ)) : Type 0 where
@@ -59,11 +57,8 @@ join_onto b f [] = refl
 join_onto b f (v ∷ vs) = refl
 
 join_by : (b : ℕ) (bs f : List ℕ) (o : List (List ℕ)) (c : Bool) → eqb b 32 ≡ c → words_of bs ≡ f ∷ o → join (words_of bs) ≡ bs → join (cond c ([] ∷ words_of bs) (onto b (words_of bs))) ≡ b ∷ bs
-join_by b bs f o true is w e =
-    ap (λ (v : List (List ℕ)). join ([] ∷ v)) w
-    ∙ ap (λ (y : List ℕ). 32 ∷ y) (sym (ap join w) ∙ e)
-    ∙ ap (λ (y : ℕ). y ∷ bs) (sym (eqb-true b 32 is))
-join_by b bs f o false is w e = ap (λ (v : List (List ℕ)). join (onto b v)) w ∙ join_onto b f o ∙ ap (λ (y : List ℕ). b ∷ y) (sym (ap join w) ∙ e)
+join_by b bs f o true is w e = rw (w, (rw w at e), eqb-true b 32 is)
+join_by b bs f o false is w e = rw (w, join_onto b f o, (rw w at e))
 
 join_words : (x : List ℕ) → join (words_of x) ≡ x
 join_words [] = refl
@@ -164,18 +159,9 @@ closed_fits : (ps : List ObjectId) (r : Result ℤ ℕ) (d : ℤ) (qs : List Obj
 closed_fits ps (Ok x) d qs e = (cc, cc)
 closed_fits ps (Err p) d qs e = (cc, cc)
 
-planted_fits : (at : ℕ) (go : Reading) (o : Option ObjectId) (d : ℤ) (qs : List ObjectId) → planted at go o ≡ fits d qs → (n : Option ObjectId) × (o ≡ n) × (n ≡ None → ⊥) × (go ≡ fits d qs)
+planted_fits : (at : ℕ) (go : Reading) (o : Option ObjectId) (d : ℤ) (qs : List ObjectId) → planted at go o ≡ fits d qs → (true ≡ is_some o) × (go ≡ fits d qs)
 planted_fits at go None d qs e = absurd (cc)
-planted_fits at go (Some n) d qs e = (Some n, refl, (λ z. absurd (cc)), e)
-
-named_by : (ds : List ℕ) (b : Bool) → nameb ds ≡ b → (cond b (Some (name_of ds)) None ≡ None → ⊥) → nameb ds ≡ true
-named_by ds true is ne = is
-named_by ds false is ne = elim (ne refl) [ ]
-
--- a name stands behind a word
-named_some : (o : Option (List ℕ)) → (named o ≡ None → ⊥) → (ds : List ℕ) × (o ≡ Some ds) × (nameb ds ≡ true)
-named_some None ne = elim (ne refl) [ ]
-named_some (Some ds) ne = (ds, refl, named_by ds (nameb ds) refl ne)
+planted_fits at go (Some n) d qs e = (refl, e)
 
 -- the parents behind ps, and the two last lines
 record Parented (t : List ℕ) (ps : List ObjectId) (d : ℤ) (qs : List ObjectId) : Type 0 where
@@ -201,7 +187,7 @@ module _ (t l : List ℕ) (ls : List (List ℕ)) (c : Cut t l ls) (at : ℕ) (ps
       → ((p : ObjectId) → parents_of (behind_line at l) (ps ++ p ∷ []) ls ≡ fits d qs → Parented c.tail (ps ++ p ∷ []) d qs) → Parented t ps d qs
   by_named (Some p) is e more =
       let r = more p e in
-      let n = named_some (behind (codes "parent ") l) (λ z. absurd (cc)) in
+      let n = named_some (behind (codes "parent ") l) (sym (ap is_some is)) in
       let same : name_of n.0 ≡ p =
       let f : ◌≡◌ {A = Option ObjectId} (Some (name_of n.0)) (Some p) = sym (ap named n.1 ∙ ap (λ (b : Bool). cond b (Some (name_of n.0)) None) n.2) ∙ is in cc in
       record {
@@ -240,8 +226,8 @@ by_lines t [] d ps is e = absurd (cc)
 by_lines t (l ∷ ls) d ps is e =
     let c = cut t l ls is in
     let f = planted_fits 0 (parents_of (behind_line 0 l) [] ls) (named (behind (codes "tree ") l)) d ps e in
-    let n = named_some (behind (codes "tree ") l) (λ z. f.2 (sym f.1 ∙ z)) in
-    let r = parented ls c.tail (behind_line 0 l) [] ps d c.lines f.3 in
+    let n = named_some (behind (codes "tree ") l) f.0 in
+    let r = parented ls c.tail (behind_line 0 l) [] ps d c.lines f.1 in
     let k = r.ends in
     record {
       tree = n.0;

@@ -1,27 +1,26 @@
 -- Lines and words, cut at their first or last line feed or space.
-use Rattle.std.proofs.Common.{◌≡◌, ℕ, zero, suc, ◌+◌, ◌-◌, ◌<◌, Bool, true, false, cond, eqb, List, [], ◌∷◌, ◌++◌, length, get_or, take, drop, None, sym, refl, ap, ◌∙◌, add-one, arith, length-drop, get_or-drop, drop-drop, eq-eqb, ne_eqb}
+use Rattle.std.proofs.Common.{◌≡◌, ℕ, suc, ◌+◌, ◌-◌, ◌<◌, Bool, true, false, cond, eqb, List, [], ◌∷◌, ◌++◌, length, get_or, take, drop, None, sym, refl, ap, subst, ◌∙◌, add-one, arith, length-drop, length-take-le, get_or-drop, drop-drop, ne_eqb}
 use lib.Seq.{split_at}
-use Rattle.std.proofs.lemmas.List.{take_rest}
+use Rattle.std.proofs.lemmas.List.{take_rest, get_or-take}
+use Rattle.commit.specs.Laws.{Lacks}
 use Rattle.commit.specs.Layout.{onto, lines_of, words_of, zoneb, moment_of, stamp}
 
-pub line_cut : (t : List ℕ) (i : ℕ) → i < length t → ((k : ℕ) → k < i → get_or t k 0 ≡ 10 → ⊥) → get_or t i 0 ≡ 10 → lines_of t ≡ take i t ∷ lines_of (drop (suc i) t)
-line_cut [] i lt nay is = elim (let f : ⊥ = omega arith in f) [ ]
-line_cut (b ∷ bs) zero lt nay is = ap (λ (c : Bool). cond c ([] ∷ lines_of bs) (onto b (lines_of bs))) (eq-eqb b 10 is)
-line_cut (b ∷ bs) (suc i) lt nay is =
-    ap (λ (c : Bool). cond c ([] ∷ lines_of bs) (onto b (lines_of bs))) (ne_eqb b 10 (nay 0 (omega arith)))
-    ∙ ap (onto b) (line_cut bs i (omega arith) (λ k h. nay (suc k) (omega arith)) is)
+-- a list without a byte, by its elements
+pub lacks_at : (c : ℕ) (t : List ℕ) → ((k : ℕ) → k < length t → get_or t k 0 ≡ c → ⊥) → Lacks c t
+lacks_at c [] nay = tt
+lacks_at c (b ∷ bs) nay = (nay 0 (omega arith), lacks_at c bs (λ k h. nay (suc k) (omega arith)))
 
-pub line_none : (t : List ℕ) → ((k : ℕ) → k < length t → get_or t k 0 ≡ 10 → ⊥) → lines_of t ≡ []
-line_none [] nay = refl
-line_none (b ∷ bs) nay =
-    ap (λ (c : Bool). cond c ([] ∷ lines_of bs) (onto b (lines_of bs))) (ne_eqb b 10 (nay 0 (omega arith)))
-    ∙ ap (onto b) (line_none bs (λ k h. nay (suc k) (omega arith)))
+pub line_more : (l r : List ℕ) → Lacks 10 l → lines_of (l ++ 10 ∷ r) ≡ l ∷ lines_of r
+line_more [] r h = refl
+line_more (b ∷ l) r h = rw (ne_eqb b 10 h.0, line_more l r h.1)
 
-pub word_one : (t : List ℕ) → ((k : ℕ) → k < length t → get_or t k 0 ≡ 32 → ⊥) → words_of t ≡ t ∷ []
-word_one [] nay = refl
-word_one (b ∷ bs) nay =
-    ap (λ (c : Bool). cond c ([] ∷ words_of bs) (onto b (words_of bs))) (ne_eqb b 32 (nay 0 (omega arith)))
-    ∙ ap (onto b) (word_one bs (λ k h. nay (suc k) (omega arith)))
+pub line_none : (t : List ℕ) → Lacks 10 t → lines_of t ≡ []
+line_none [] h = refl
+line_none (b ∷ bs) h = rw (ne_eqb b 10 h.0, line_none bs h.1)
+
+pub one_word : (l : List ℕ) → Lacks 32 l → words_of l ≡ l ∷ []
+one_word [] h = refl
+one_word (b ∷ l) h = rw (ne_eqb b 32 h.0, one_word l h.1)
 
 -- there is always a word
 pub record Worded (t : List ℕ) : Type 0 where
@@ -30,27 +29,19 @@ pub record Worded (t : List ℕ) : Type 0 where
   pub are : words_of t ≡ first ∷ others
 
 worded_by : (b : ℕ) (bs : List ℕ) (c : Bool) (f : List ℕ) (o : List (List ℕ)) → eqb b 32 ≡ c → words_of bs ≡ f ∷ o → Worded (b ∷ bs)
-worded_by b bs true f o is e = record { first = []; others = words_of bs; are = ap (λ (c : Bool). cond c ([] ∷ words_of bs) (onto b (words_of bs))) is }
-worded_by b bs false f o is e = record { first = b ∷ f; others = o; are = ap (λ (c : Bool). cond c ([] ∷ words_of bs) (onto b (words_of bs))) is ∙ ap (onto b) e }
+worded_by b bs true f o is e = record { first = []; others = words_of bs; are = rw is }
+worded_by b bs false f o is e = record { first = b ∷ f; others = o; are = rw (is, e) }
 
 pub worded : (t : List ℕ) → Worded t
 worded [] = record { first = []; others = []; are = refl }
 worded (b ∷ bs) = let w = worded bs in worded_by b bs (eqb b 32) w.first w.others refl w.are
 
 onto_append : (b : ℕ) (f : List ℕ) (o ws : List (List ℕ)) (vs : List (List ℕ)) → vs ≡ f ∷ o → onto b (vs ++ ws) ≡ onto b vs ++ ws
-onto_append b f o ws vs e = ap (λ (v : List (List ℕ)). onto b (v ++ ws)) e ∙ sym (ap (λ (v : List (List ℕ)). onto b v ++ ws) e)
+onto_append b f o ws vs e = rw e
 
 step_by : (b : ℕ) (bs ws : List ℕ) (c : Bool) → eqb b 32 ≡ c → words_of (bs ++ 32 ∷ ws) ≡ words_of bs ++ words_of ws → words_of (b ∷ (bs ++ 32 ∷ ws)) ≡ words_of (b ∷ bs) ++ words_of ws
-step_by b bs ws true is e =
-    ap (λ (c : Bool). cond c ([] ∷ words_of (bs ++ 32 ∷ ws)) (onto b (words_of (bs ++ 32 ∷ ws)))) is
-    ∙ ap (λ (v : List (List ℕ)). [] ∷ v) e
-    ∙ sym (ap (λ (c : Bool). cond c ([] ∷ words_of bs) (onto b (words_of bs)) ++ words_of ws) is)
-step_by b bs ws false is e =
-    let w = worded bs in
-    ap (λ (c : Bool). cond c ([] ∷ words_of (bs ++ 32 ∷ ws)) (onto b (words_of (bs ++ 32 ∷ ws)))) is
-    ∙ ap (onto b) e
-    ∙ onto_append b w.first w.others (words_of ws) (words_of bs) w.are
-    ∙ sym (ap (λ (c : Bool). cond c ([] ∷ words_of bs) (onto b (words_of bs)) ++ words_of ws) is)
+step_by b bs ws true is e = rw (is, e)
+step_by b bs ws false is e = let w = worded bs in rw (is, e) (onto_append b w.first w.others (words_of ws) (words_of bs) w.are)
 
 -- the words on both sides of a space
 pub words_both : (t u : List ℕ) → words_of (t ++ 32 ∷ u) ≡ words_of t ++ words_of u
@@ -69,7 +60,7 @@ stamp_two (u ∷ t ∷ us) v w = stamp_more u t us v w (stamp_two (t ∷ us) v w
 
 pub stamp_bad : (us : List (List ℕ)) (w : List ℕ) → zoneb w ≡ false → stamp (us ++ w ∷ []) ≡ None
 stamp_bad [] w nay = refl
-stamp_bad (u ∷ []) w nay = ap (λ (b : Bool). cond b (moment_of u) None) nay
+stamp_bad (u ∷ []) w nay = rw nay
 stamp_bad (u ∷ t ∷ us) w nay = more u t us w (stamp_bad (t ∷ us) w nay)
   where
     more : (u t : List ℕ) (us : List (List ℕ)) (w : List ℕ) → stamp ((t ∷ us) ++ w ∷ []) ≡ None → stamp ((u ∷ t ∷ us) ++ w ∷ []) ≡ None
@@ -89,15 +80,13 @@ parts t front back i b lt is f k =
 pub cut_line : (t front back : List ℕ) (i : ℕ) → i < length t → ((k : ℕ) → k < i → get_or t k 0 ≡ 10 → ⊥) → get_or t i 0 ≡ 10 → front ≡ take i t → back ≡ drop i t
     → (lines_of t ≡ front ∷ lines_of (take (length back - 1) (drop 1 back))) × (t ≡ front ++ 10 ∷ take (length back - 1) (drop 1 back))
 cut_line t front back i lt nay is f k =
-    let l = line_cut t i lt nay is in
-    let r = tail_is t back i k in
-    (cc, parts t front back i 10 lt is f k)
+    let p = parts t front back i 10 lt is f k in
+    let lacks : Lacks 10 (take i t) = lacks_at 10 (take i t) (λ j h e. let l : j < i = omega (arith, length-take-le i t (omega arith)) in nay j l (sym (get_or-take i t j 0 l) ∙ e)) in
+    (ap lines_of p ∙ line_more front _ (subst (Lacks 10) (sym f) lacks), p)
 
 pub cut_word : (t front back : List ℕ) (i : ℕ) → i < length t → ((k : ℕ) → i < k → k < length t → get_or t k 0 ≡ 32 → ⊥) → get_or t i 0 ≡ 32 → front ≡ take i t → back ≡ drop i t
     → words_of t ≡ words_of front ++ take (length back - 1) (drop 1 back) ∷ []
 cut_word t front back i lt nay is f k =
     let r = tail_is t back i k in
-    let w = take (length back - 1) (drop 1 back) in
-    let one : words_of (drop (suc i) t) ≡ drop (suc i) t ∷ [] =
-    word_one (drop (suc i) t) (λ j h e. nay (suc i + j) (omega arith) (let z = length-drop (suc i) t in omega arith) (sym (get_or-drop (suc i) t j 0) ∙ e)) in
-    ap words_of (parts t front back i 32 lt is f k) ∙ words_both front w ∙ ap (λ (v : List (List ℕ)). words_of front ++ v) (ap words_of r ∙ one ∙ ap (λ (v : List ℕ). v ∷ []) (sym r))
+    let lacks : Lacks 32 (drop (suc i) t) = lacks_at 32 (drop (suc i) t) (λ j h e. nay (suc i + j) (omega arith) (let z = length-drop (suc i) t in omega arith) (sym (get_or-drop (suc i) t j 0) ∙ e)) in
+    ap words_of (parts t front back i 32 lt is f k) ∙ words_both front _ ∙ ap (λ (v : List (List ℕ)). words_of front ++ v) (one_word _ (subst (Lacks 32) (sym r) lacks))

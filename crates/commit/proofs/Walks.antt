@@ -1,18 +1,15 @@
 -- The lines of a text, one after another.
-use Rattle.std.proofs.Common.{◌≡◌, ℕ, ◌+◌, ◌-◌, ◌*◌, ◌/◌, ◌<◌, ◌≤◌, Bool, true, false, cond, ◌&&◌, eqb, List, [], ◌∷◌, ◌++◌, length, take, drop, ℤ, Some, None, codes, Option, Result, sym, refl, ap, ◌∙◌, append_assoc, arith, length-append, length-take-le, take-take, drop-drop, take_at, ext_get_or, drop_at, eqb-true}
+use Rattle.std.proofs.Common.{◌≡◌, ℕ, zero, suc, ◌+◌, ◌-◌, ◌*◌, ◌/◌, ◌<◌, ◌≤◌, Bool, true, false, ◌&&◌, eqb, List, [], ◌∷◌, ◌++◌, length, get_or, take, drop, ℤ, Some, None, codes, sym, refl, ap, ◌∙◌, append_assoc, arith, suc-mul, length-append, length-take-le, take-take, drop-drop, take_at, ext_get_or, drop_at, eqb-true}
 use Rattle.std.proofs.lemmas.List.{drop-take}
 use Rattle.std.specs.List.{slice_get}
+use Rattle.std.specs.Option.{is_some}
+use Rattle.std.specs.Simd.{first_chunks}
 use Rattle.std.proofs.lemmas.List.FromFn.{map-range_with_len_more, length-map-range_with_len, get_or-map-range_with_len}
 use Rattle.std.proofs.lemmas.Option.{slice_get-get_or, slice_get_past}
 use Rattle.source.specs.declared.ObjectId.{ObjectId}
-use Rattle.commit.specs.Layout.{behind, behind_line, named, nameb, name_of, all_hex, stamped, stamp, words_of, ended, committer_of, closed, authored, fathered, parents_of, fits, misfits, lines_of, commit_of, planted}
-use Rattle.commit.specs.Shapes.{tree, parent, author, committer, other, head_of, name_at, names_in, names_of}
-use Rattle.commit.proofs.Fronts.{is_tree, is_parent, is_author, is_committer, is_other, behind_is, apart}
-
-pub committer_line : (t l tail x : List ℕ) (p at : ℕ) → lines_of t ≡ l ∷ lines_of tail → committer x p ≡ head_of l at → (committer_of at (lines_of t) ≡ ended at (stamp (words_of x))) × (p ≡ at)
-committer_line t l tail x p at e h =
-    let k = is_committer l x p at h in
-    (ap (committer_of at) e ∙ ap (λ (o : Option (List ℕ)). ended at (stamped o)) k.2, k.3)
+use Rattle.commit.specs.Layout.{behind, behind_line, named, nameb, name_of, all_hex, committer_of, closed, authored, parents_of, fits, misfits, lines_of, commit_of}
+use Rattle.commit.specs.Shapes.{name_at, names_in, names_of}
+use Rattle.commit.proofs.Fronts.{behind_is, named_some, named_none}
 
 pub forty : (ds : List ℕ) → true ≡ nameb ds → length ds ≡ 40
 forty ds h = eqb-true (length ds) 40 (front (eqb (length ds) 40) (all_hex ds) h)
@@ -22,14 +19,15 @@ forty ds h = eqb-true (length ds) 40 (front (eqb (length ds) 40) (all_hex ds) h)
     front false b h = sym h
 
 -- how far the parent lines are read
-pub record Sofar (lines : List ℕ) (at : ℕ) (rest : List ℕ) (place count : ℕ) : Type 0 where
-  pub sums : place + length rest ≡ at + length lines
+pub record Sofar (lines : List ℕ) (at : ℕ) (rest : List ℕ) (place : ℕ) : Type 0 where
+  pub count : ℕ
+  pub sums : place ≡ at + 48 * count
   pub goes : rest ≡ drop (48 * count) lines
   pub long : 48 * count + length rest ≡ length lines
   pub gives : parents_of place (names_in count lines) (lines_of rest) ≡ parents_of at [] (lines_of lines)
 
-pub start : (lines : List ℕ) (at : ℕ) → Sofar lines at lines at 0
-start lines at = record { sums = refl; goes = refl; long = omega arith; gives = refl }
+pub start : (lines : List ℕ) (at : ℕ) → Sofar lines at lines at
+start lines at = record { count = 0; sums = omega arith; goes = refl; long = omega arith; gives = refl }
 
 -- a parent line's parts
 pub record Parent (rest l tail ds : List ℕ) : Type 0 where
@@ -48,100 +46,55 @@ parent_parts rest l tail ds e f forty =
       after = sym (sym (drop-drop 1 47 rest) ∙ ap (drop 1) (ap (drop 47) e ∙ drop_at l (10 ∷ tail) 47 size));
     }
 
-pub one_parent : (lines : List ℕ) (at : ℕ) (rest l tail ds : List ℕ) (place count p : ℕ) → Sofar lines at rest place count
-    → lines_of rest ≡ l ∷ lines_of tail → rest ≡ l ++ 10 ∷ tail → parent ds p ≡ head_of l place → true ≡ nameb ds → Sofar lines at tail (place + (length l + 1)) (count + 1)
-one_parent lines at rest l tail ds place count p s e cut h ok =
-    let k = is_parent l ds p place h in
-    let q = parent_parts rest l tail ds cut (behind_is (codes "parent ") l ds k.0) (forty ds ok) in
+-- a parent line, and a line that is no parent's
+pub parent_step : (place : ℕ) (ps : List ObjectId) (l ds : List ℕ) (ls : List (List ℕ)) → behind (codes "parent ") l ≡ Some ds → nameb ds ≡ true → parents_of place ps (l ∷ ls) ≡ parents_of (behind_line place l) (ps ++ name_of ds ∷ []) ls
+parent_step place ps l ds ls is ok = rw (is, ok)
+
+pub one_parent : (lines : List ℕ) (at : ℕ) (rest l tail : List ℕ) (place next : ℕ) → Sofar lines at rest place
+    → lines_of rest ≡ l ∷ lines_of tail → rest ≡ l ++ 10 ∷ tail → next ≡ place + (length l + 1) → true ≡ is_some (named (behind (codes "parent ") l)) → Sofar lines at tail next
+one_parent lines at rest l tail place next s e cut n h =
+    let k = named_some (behind (codes "parent ") l) h in
+    let ds = k.0 in
+    let q = parent_parts rest l tail ds cut (behind_is (codes "parent ") l ds k.1) (forty ds (sym k.2)) in
     let size : length rest ≡ 48 + length tail = ap length cut ∙ length-append l (10 ∷ tail) ∙ omega (arith, q.size) in
-    let name : name_at lines count ≡ name_of ds = ap name_of (ap (take 40) (sym (drop-drop 7 (48 * count) lines) ∙ ap (drop 7) (sym s.goes)) ∙ q.digits) in
-    let more : names_in (count + 1) lines ≡ names_in count lines ++ name_of ds ∷ [] =
-    map-range_with_len_more (name_at lines) 0 count count (omega arith) ∙ ap (λ (x : ObjectId). names_in count lines ++ x ∷ []) name in
-    let next : parents_of place (names_in count lines) (lines_of rest) ≡ parents_of (behind_line place l) (names_in count lines ++ name_of ds ∷ []) (lines_of tail) =
-    ap (parents_of place (names_in count lines)) e
-    ∙ ap (λ (o : Option (List ℕ)). fathered (named o) (λ x. parents_of (behind_line place l) (names_in count lines ++ x ∷ []) (lines_of tail)) (authored place (closed (names_in count lines) (committer_of (behind_line place l) (lines_of tail))) (behind (codes "author ") l))) k.0
-    ∙ ap (λ (b : Bool). fathered (cond b (Some (name_of ds)) None) (λ x. parents_of (behind_line place l) (names_in count lines ++ x ∷ []) (lines_of tail)) (authored place (closed (names_in count lines) (committer_of (behind_line place l) (lines_of tail))) (behind (codes "author ") l))) (sym ok) in
+    let name : name_at lines s.count ≡ name_of ds = ap name_of (ap (take 40) (sym (drop-drop 7 (48 * s.count) lines) ∙ ap (drop 7) (sym s.goes)) ∙ q.digits) in
+    let more : names_in (s.count + 1) lines ≡ names_in s.count lines ++ name_of ds ∷ [] =
+    map-range_with_len_more (name_at lines) 0 s.count s.count (omega arith) ∙ ap (λ (x : ObjectId). names_in s.count lines ++ x ∷ []) name in
+    let step = parent_step place (names_in s.count lines) l ds (lines_of tail) k.1 k.2 in
     record {
+      count = s.count + 1;
       sums = omega (arith, s.sums, q.size);
-      goes = q.after ∙ ap (drop 48) s.goes ∙ drop-drop 48 (48 * count) lines ∙ ap (λ (n : ℕ). drop n lines) (omega arith);
+      goes = q.after ∙ ap (drop 48) s.goes ∙ drop-drop 48 (48 * s.count) lines ∙ ap (λ (n : ℕ). drop n lines) (omega arith);
       long = omega (arith, s.long);
-      gives = ap (λ (ps : List ObjectId). parents_of (behind_line place l) ps (lines_of tail)) more ∙ sym next ∙ s.gives;
+      gives = ap (λ (p : ℕ). parents_of p (names_in (s.count + 1) lines) (lines_of tail)) n ∙ ap (λ (ps : List ObjectId). parents_of (behind_line place l) ps (lines_of tail)) more ∙ sym (ap (parents_of place (names_in s.count lines)) e ∙ step) ∙ s.gives;
     }
 
+-- a line that is no parent's
+no_parent : (lines : List ℕ) (at : ℕ) (rest l tail : List ℕ) (place : ℕ) (s : Sofar lines at rest place) → lines_of rest ≡ l ∷ lines_of tail → false ≡ is_some (named (behind (codes "parent ") l))
+    → authored place (closed (names_in s.count lines) (committer_of (behind_line place l) (lines_of tail))) (behind (codes "author ") l) ≡ parents_of at [] (lines_of lines)
+no_parent lines at rest l tail place s e nay =
+    let step : parents_of place (names_in s.count lines) (lines_of rest) ≡ authored place (closed (names_in s.count lines) (committer_of (behind_line place l) (lines_of tail))) (behind (codes "author ") l) = rw (e, named_none _ nay) in
+    sym step ∙ s.gives
+
 -- the author line, and the committer line behind it
-pub at_author : (lines : List ℕ) (at : ℕ) (rest l tail x : List ℕ) (place count p : ℕ) → Sofar lines at rest place count
-    → lines_of rest ≡ l ∷ lines_of tail → author x p ≡ head_of l place → (r : Result ℤ ℕ) → r ≡ committer_of (place + (length l + 1)) (lines_of tail)
-    → closed (names_in count lines) r ≡ parents_of at [] (lines_of lines)
-at_author lines at rest l tail x place count p s e h r is =
-    let k = is_author l x p place h in
-    ap (closed (names_in count lines)) is
-    ∙ sym (
-    ap (parents_of place (names_in count lines)) e
-    ∙ ap (λ (o : Option (List ℕ)). fathered (named o) (λ y. parents_of (behind_line place l) (names_in count lines ++ y ∷ []) (lines_of tail)) (authored place (closed (names_in count lines) (committer_of (behind_line place l) (lines_of tail))) (behind (codes "author ") l))) k.0
-    ∙ ap (authored place (closed (names_in count lines) (committer_of (behind_line place l) (lines_of tail)))) k.1)
-    ∙ s.gives
+pub at_author : (lines : List ℕ) (at : ℕ) (rest l tail x : List ℕ) (place next : ℕ) (s : Sofar lines at rest place) → lines_of rest ≡ l ∷ lines_of tail → next ≡ place + (length l + 1)
+    → false ≡ is_some (named (behind (codes "parent ") l)) → behind (codes "author ") l ≡ Some x
+    → closed (names_in s.count lines) (committer_of next (lines_of tail)) ≡ parents_of at [] (lines_of lines)
+at_author lines at rest l tail x place next s e n nay is = rw n (rw is at (no_parent lines at rest l tail place s e nay))
 
 -- a line that is neither a parent nor an author
-misfit : (lines : List ℕ) (at : ℕ) (rest l tail : List ℕ) (place count p : ℕ) → Sofar lines at rest place count → lines_of rest ≡ l ∷ lines_of tail
-    → named (behind (codes "parent ") l) ≡ None → behind (codes "author ") l ≡ None → p ≡ place → misfits p ≡ parents_of at [] (lines_of lines)
-misfit lines at rest l tail place count p s e b c is =
-    ap misfits is
-    ∙ sym (
-    ap (parents_of place (names_in count lines)) e
-    ∙ ap (λ (o : Option ObjectId). fathered o (λ y. parents_of (behind_line place l) (names_in count lines ++ y ∷ []) (lines_of tail)) (authored place (closed (names_in count lines) (committer_of (behind_line place l) (lines_of tail))) (behind (codes "author ") l))) b
-    ∙ ap (authored place (closed (names_in count lines) (committer_of (behind_line place l) (lines_of tail)))) c)
-    ∙ s.gives
+pub misfit : (lines : List ℕ) (at : ℕ) (rest l tail : List ℕ) (place : ℕ) → Sofar lines at rest place → lines_of rest ≡ l ∷ lines_of tail
+    → false ≡ is_some (named (behind (codes "parent ") l)) → behind (codes "author ") l ≡ None → misfits place ≡ parents_of at [] (lines_of lines)
+misfit lines at rest l tail place s e nay is = rw is at (no_parent lines at rest l tail place s e nay)
 
-pub no_line : (lines : List ℕ) (at : ℕ) (rest : List ℕ) (place count : ℕ) → Sofar lines at rest place count → lines_of rest ≡ [] → misfits place ≡ parents_of at [] (lines_of lines)
-no_line lines at rest place count s e = sym (ap (parents_of place (names_in count lines)) e) ∙ s.gives
+pub tree_good : (t l tail : List ℕ) (at next : ℕ) → lines_of t ≡ l ∷ lines_of tail → next ≡ at + (length l + 1) → true ≡ is_some (named (behind (codes "tree ") l)) → parents_of next [] (lines_of tail) ≡ commit_of at (lines_of t)
+tree_good t l tail at next e n h =
+    let k = named_some (behind (codes "tree ") l) h in
+    let step : commit_of at (lines_of t) ≡ parents_of (behind_line at l) [] (lines_of tail) = rw (e, k.1, k.2) in
+    rw n (sym step)
 
-pub bad_parent : (lines : List ℕ) (at : ℕ) (rest l tail ds : List ℕ) (place count p : ℕ) → Sofar lines at rest place count → lines_of rest ≡ l ∷ lines_of tail
-    → parent ds p ≡ head_of l place → false ≡ nameb ds → misfits p ≡ parents_of at [] (lines_of lines)
-bad_parent lines at rest l tail ds place count p s e h bad =
-    let k = is_parent l ds p place h in
-    misfit lines at rest l tail place count p s e
-    (ap named k.0 ∙ ap (λ (b : Bool). cond b (Some (name_of ds)) None) (sym bad))
-    (apart 112 97 (codes "arent ") (codes "uthor ") l ds (λ q. omega arith) k.0) k.1
-
-pub at_tree : (lines : List ℕ) (at : ℕ) (rest l tail x : List ℕ) (place count p : ℕ) → Sofar lines at rest place count → lines_of rest ≡ l ∷ lines_of tail
-    → tree x p ≡ head_of l place → misfits p ≡ parents_of at [] (lines_of lines)
-at_tree lines at rest l tail x place count p s e h =
-    let k = is_tree l x p place h in
-    misfit lines at rest l tail place count p s e
-    (ap named (apart 116 112 (codes "ree ") (codes "arent ") l x (λ q. omega arith) k.0))
-    (apart 116 97 (codes "ree ") (codes "uthor ") l x (λ q. omega arith) k.0) k.1
-
-pub at_committer : (lines : List ℕ) (at : ℕ) (rest l tail x : List ℕ) (place count p : ℕ) → Sofar lines at rest place count → lines_of rest ≡ l ∷ lines_of tail
-    → committer x p ≡ head_of l place → misfits p ≡ parents_of at [] (lines_of lines)
-at_committer lines at rest l tail x place count p s e h =
-    let k = is_committer l x p place h in
-    misfit lines at rest l tail place count p s e (ap named k.0) k.1 k.3
-
-pub at_other : (lines : List ℕ) (at : ℕ) (rest l tail x : List ℕ) (place count p : ℕ) → Sofar lines at rest place count → lines_of rest ≡ l ∷ lines_of tail
-    → other x p ≡ head_of l place → misfits p ≡ parents_of at [] (lines_of lines)
-at_other lines at rest l tail x place count p s e h =
-    let k = is_other l x p place h in
-    misfit lines at rest l tail place count p s e (ap named k.1) k.2 k.4
-
--- the line's bytes and those behind it
-pub sizes : (t l tail : List ℕ) → t ≡ l ++ 10 ∷ tail → length t ≡ length l + 1 + length tail
-sizes t l tail e = ap length e ∙ length-append l (10 ∷ tail) ∙ omega arith
-
-pub tree_good : (t l tail ds : List ℕ) (p at : ℕ) → lines_of t ≡ l ∷ lines_of tail → tree ds p ≡ head_of l at → true ≡ nameb ds → commit_of at (lines_of t) ≡ parents_of (at + (length l + 1)) [] (lines_of tail)
-tree_good t l tail ds p at e h ok =
-    let k = is_tree l ds p at h in
-    ap (commit_of at) e
-    ∙ ap (λ (o : Option (List ℕ)). planted at (parents_of (behind_line at l) [] (lines_of tail)) (named o)) k.0
-    ∙ ap (λ (b : Bool). planted at (parents_of (behind_line at l) [] (lines_of tail)) (cond b (Some (name_of ds)) None)) (sym ok)
-
-pub tree_bad : (t l tail ds : List ℕ) (p at : ℕ) → lines_of t ≡ l ∷ lines_of tail → tree ds p ≡ head_of l at → false ≡ nameb ds → misfits p ≡ commit_of at (lines_of t)
-tree_bad t l tail ds p at e h bad =
-    let k = is_tree l ds p at h in
-    ap misfits k.1
-    ∙ sym (
-    ap (commit_of at) e
-    ∙ ap (λ (o : Option (List ℕ)). planted at (parents_of (behind_line at l) [] (lines_of tail)) (named o)) k.0
-    ∙ ap (λ (b : Bool). planted at (parents_of (behind_line at l) [] (lines_of tail)) (cond b (Some (name_of ds)) None)) (sym bad))
+pub tree_bad : (t l tail : List ℕ) (at : ℕ) → lines_of t ≡ l ∷ lines_of tail → false ≡ is_some (named (behind (codes "tree ") l)) → misfits at ≡ commit_of at (lines_of t)
+tree_bad t l tail at e nay = rw (e, named_none _ nay)
 
 pub name_at_lem : (b : List ℕ) (n i : ℕ) → i < n → slice_get (names_in n b) i ≡ Some (name_at b i)
 name_at_lem b n i lt = slice_get-get_or (names_in n b) i (name_at b i) (let k = length-map-range_with_len (name_at b) 0 n in omega arith) ∙ ap (λ (x : ObjectId). Some x) (get_or-map-range_with_len (name_at b) 0 n i i (name_at b i) lt (omega arith))
@@ -171,14 +124,28 @@ names_same a b n h =
     let l : i < n = omega arith in
     get_or-map-range_with_len (name_at a) 0 n i i d l (omega arith) ∙ h i l ∙ sym (get_or-map-range_with_len (name_at b) 0 n i i d l (omega arith)))
 
-pub names_front : (b : List ℕ) (n : ℕ) → 48 * n ≤ length b → names_of (take (48 * n - 0) (drop 0 b)) ≡ names_in n b
-names_front b n le =
-    let z : 48 * n - 0 ≡ 48 * n = omega arith in
+pub names_front : (b : List ℕ) (m n : ℕ) → m ≡ 48 * n → 48 * n ≤ length b → names_of (take m b) ≡ names_in n b
+names_front b m n is le =
     let l : length (take (48 * n) b) ≡ 48 * n = length-take-le (48 * n) b le in
     let q : length (take (48 * n) b) / 48 ≡ n = ap (λ (k : ℕ). k / 48) l ∙ omega arith in
-    ap (λ (j : ℕ). names_of (take j b)) z
+    ap (λ (j : ℕ). names_of (take j b)) is
     ∙ ap (λ (j : ℕ). names_in j (take (48 * n) b)) q
     ∙ names_same (take (48 * n) b) b n (λ k lt. ap name_of (part_same b n k le lt))
 
 pub length_names : (b : List ℕ) → length (names_of b) ≡ length b / 48
 length_names b = length-map-range_with_len (name_at b) 0 (length b / 48)
+
+-- the line i of 48 bytes, and the name on it
+chunk_at : (n k i : ℕ) (b d : List ℕ) → i < k → get_or (first_chunks n k b) i d ≡ take n (drop (i * n) b)
+chunk_at n zero i b d lt = absurd (omega arith)
+chunk_at n (suc k) zero b d lt = ap (λ (j : ℕ). take n (drop j b)) (let z : 0 ≡ 0 * n = omega arith in z)
+chunk_at n (suc k) (suc i) b d lt = chunk_at n k i (drop n b) d (omega arith) ∙ ap (take n) (drop-drop (i * n) n b ∙ ap (λ (j : ℕ). drop j b) (let h = suc-mul i n in omega arith))
+
+pub name_on : (b line : List ℕ) (i : ℕ) → i < length b / 48 → line ≡ get_or (first_chunks 48 (length b / 48) b) i [] → Some (name_of (take 40 (drop 7 line))) ≡ slice_get (names_of b) i
+name_on b line i lt is =
+    let part : line ≡ take 48 (drop (i * 48) b) = is ∙ chunk_at 48 (length b / 48) i b [] lt in
+    let at : i * 48 + 7 ≡ 48 * i + 7 = omega arith in
+    ap (λ (l : List ℕ). Some (name_of (take 40 (drop 7 l)))) part
+    ∙ ap (λ (l : List ℕ). Some (name_of (take 40 l))) (drop-take 7 41 (drop (i * 48) b))
+    ∙ ap (λ (l : List ℕ). Some (name_of l)) (take-take 40 41 (drop 7 (drop (i * 48) b)) (omega arith) ∙ ap (take 40) (drop-drop 7 (i * 48) b ∙ ap (λ (j : ℕ). drop j b) at))
+    ∙ sym (name_at_lem b (length b / 48) i lt)

@@ -1,20 +1,13 @@
 -- A text that the layout composes is read as it was composed.
-use Rattle.std.proofs.Common.{◌≡◌, ℕ, ◌<◌, ◌≤◌, Bool, true, false, cond, not, ◌&&◌, ◌||◌, eqb, leb, List, [], ◌∷◌, ◌++◌, map, length, ℤ, Some, None, codes, Option, sym, refl, ap, ◌∙◌, append_assoc, arith, ne_eqb, eqb-true}
+use Rattle.std.proofs.Common.{◌≡◌, ℕ, ◌<◌, ◌≤◌, Bool, true, false, cond, not, ◌&&◌, ◌||◌, eqb, leb, List, [], ◌∷◌, ◌++◌, map, length, ℤ, Some, None, codes, Option, sym, refl, ap, ◌∙◌, append_assoc, arith, eqb-true}
 use lib.Seq.{append_snoc}
 use Rattle.std.proofs.lemmas.Bool.Decides.{nat_tests}
 use Rattle.std.proofs.lemmas.List.{append-nil}
 use Rattle.source.specs.declared.ObjectId.{ObjectId}
-use Rattle.commit.specs.Layout.{onto, lines_of, words_of, hexb, all_hex, nameb, name_of, digitb, all_digits, number, amount_of, upward, downward, moment_of, zoneb, stamp, ended, committer_of, closed, behind_line, fathered, authored, parents_of, planted, fits, reading_of, commit_of}
+use Rattle.commit.specs.Layout.{lines_of, words_of, hexb, all_hex, nameb, name_of, digitb, all_digits, number, amount_of, upward, downward, moment_of, zoneb, stamp, ended, committer_of, closed, behind_line, parents_of, fits, reading_of, commit_of}
 use Rattle.commit.specs.Laws.{Lacks, Spaced, AllNames, parent_lines, Written}
-use Rattle.commit.proofs.Cuts.{words_both, stamp_two}
-
-line_more : (l r : List ℕ) → Lacks 10 l → lines_of (l ++ 10 ∷ r) ≡ l ∷ lines_of r
-line_more [] r h = refl
-line_more (b ∷ l) r h = ap (λ (c : Bool). cond c ([] ∷ lines_of (l ++ 10 ∷ r)) (onto b (lines_of (l ++ 10 ∷ r)))) (ne_eqb b 10 h.0) ∙ ap (onto b) (line_more l r h.1)
-
-one_word : (l : List ℕ) → Lacks 32 l → words_of l ≡ l ∷ []
-one_word [] h = refl
-one_word (b ∷ l) h = ap (λ (c : Bool). cond c ([] ∷ words_of l) (onto b (words_of l))) (ne_eqb b 32 h.0) ∙ ap (onto b) (one_word l h.1)
+use Rattle.commit.proofs.Walks.{parent_step}
+use Rattle.commit.proofs.Cuts.{line_more, one_word, words_both, stamp_two}
 
 lacks_both : (c : ℕ) (a b : List ℕ) → Lacks c a → Lacks c b → Lacks c (a ++ b)
 lacks_both c [] b h k = k
@@ -55,7 +48,7 @@ parents d (n ∷ ns) rest all end at ps =
     let l = codes "parent " ++ n in
     let tail = parent_lines ns rest in
     ap (parents_of at ps) (header (codes "parent ") n tail refl (name_lacks n all.0))
-    ∙ ap (λ (b : Bool). fathered (cond b (Some (name_of n)) None) (λ p. parents_of (behind_line at l) (ps ++ p ∷ []) (lines_of tail)) (authored at (closed ps (committer_of (behind_line at l) (lines_of tail))) None)) all.0
+    ∙ parent_step at ps l n (lines_of tail) refl all.0
     ∙ parents d ns rest all.1 end (behind_line at l) (ps ++ name_of n ∷ [])
     ∙ ap (fits d) (append_snoc ps (name_of n) (map name_of ns))
 
@@ -112,20 +105,14 @@ stamps : (who day zone : List ℕ) → Spaced who → Lacks 32 day → Lacks 32 
 stamps who day zone sp hd hz ok = by who sp
   where
     two : words_of (day ++ 32 ∷ zone) ≡ day ∷ zone ∷ []
-    two = words_both day zone ∙ ap (λ (v : List (List ℕ)). v ++ words_of zone) (one_word day hd) ∙ ap (λ (v : List (List ℕ)). day ∷ v) (one_word zone hz)
+    two = rw (words_both day zone, one_word day hd, one_word zone hz)
 
     by : (w : List ℕ) → Spaced w → stamp (words_of (w ++ (day ++ 32 ∷ zone))) ≡ moment_of day
-    by [] h = ap stamp two ∙ ap (λ (b : Bool). cond b (moment_of day) None) ok
+    by [] h = rw (two, ok)
     by (x ∷ xs) h =
         let f = spaced_front x xs h in
-        ap (λ (y : List ℕ). stamp (words_of (y ++ (day ++ 32 ∷ zone)))) f.1
-        ∙ ap stamp (
-        ap words_of (append_snoc f.0 32 (day ++ 32 ∷ zone))
-        ∙ words_both f.0 (day ++ 32 ∷ zone)
-        ∙ ap (λ (v : List (List ℕ)). words_of f.0 ++ v) two
-        ∙ sym (append_assoc (words_of f.0) (day ∷ []) (zone ∷ [])))
-        ∙ stamp_two (words_of f.0) day zone
-        ∙ ap (λ (b : Bool). cond b (moment_of day) None) ok
+        let words : words_of ((f.0 ++ 32 ∷ []) ++ (day ++ 32 ∷ zone)) ≡ (words_of f.0 ++ day ∷ []) ++ zone ∷ [] = rw (append_snoc f.0 32 (day ++ 32 ∷ zone), words_both f.0 (day ++ 32 ∷ zone), two, append_assoc (words_of f.0) (day ∷ []) (zone ∷ [])) in
+        ap (λ (y : List ℕ). stamp (words_of (y ++ (day ++ 32 ∷ zone)))) f.1 ∙ rw (words, stamp_two (words_of f.0) day zone, ok)
 
 -- what the layout composes is read as it was composed
 pub reads_written : (t : List ℕ) (d : ℤ) (ps : List ObjectId) → Written t d ps → reading_of t ≡ fits d ps
@@ -147,6 +134,4 @@ reads_written t d ps w =
     let tail = parent_lines w.names (codes "author " ++ (w.author ++ 10 ∷ last)) in
     ap reading_of w.whole
     ∙ ap (commit_of 0) (header (codes "tree ") w.tree tail refl (name_lacks w.tree w.tree_is))
-    ∙ ap (λ (b : Bool). planted 0 (parents_of (behind_line 0 l) [] (lines_of tail)) (cond b (Some (name_of w.tree)) None)) w.tree_is
-    ∙ parents d w.names _ w.names_are authors (behind_line 0 l) []
-    ∙ ap (fits d) w.parents_are
+    ∙ rw w.tree_is (parents d w.names _ w.names_are authors (behind_line 0 l) [] ∙ ap (fits d) w.parents_are)

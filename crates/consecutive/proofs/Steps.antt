@@ -7,11 +7,10 @@ use Rattle.model.specs.Steady.{Ext}
 use Rattle.std.proofs.lemmas.Bool.{cond-true, cond-false}
 use Rattle.queue.specs.Waiting.{enter}
 use Rattle.book.specs.Bits.{has}
-use Rattle.model.specs.Book.{Waits, Marks, Flags, COMMON, POPPED, join, meets, Row, Walk, row, flags_at, change, drawn, recount, place, place_mark}
-use Rattle.model.specs.Steps.{taken}
+use Rattle.model.specs.Book.{Waits, Marks, Flags, COMMON, join, meets, Walk, row, flags_at, change, drawn, recount, place, place_mark}
 use Rattle.model.specs.Consecutive.{entered, waits, commoned}
 use Rattle.model.specs.View.{unpack, Admits}
-use Rattle.model.proofs.Good.{row_same}
+use Rattle.model.proofs.Good.{date_kept}
 use Rattle.walk.specs.View.{is_mask}
 use Rattle.walk.proofs.Views.{mask_law}
 
@@ -23,10 +22,6 @@ admits_mask mask g (inr (inr e, u)) = ap is_mask e
 -- whether a byte has a bit of a mask
 pub meets_is : (mask f : ℕ) (g : Flags) (b : Bool) → is_mask mask ≡ true → unpack f ≡ g → b ≡ has f mask → meets (unpack mask) g ≡ b
 meets_is mask f g b h e t = ap (meets (unpack mask)) (sym e) ∙ sym (mask_law mask h f).1 ∙ sym t
-
--- the date of a row whose flags change
-date_kept : (s : Walk) (k : ℕ) (f : Flags) (q : Waits) (c : ℕ) → k < length s.rows → (row (change s k f q c) k).date ≡ (row s k).date
-date_kept s k f q c l = ap (λ (r : Row). r.date) (row_same s k f q c l)
 
 -- a push at a row that had a bit of the mask
 pub admitted_no : (s t : Walk) (k mask f : ℕ) → Admits mask (flags_at s k) → unpack f ≡ flags_at s k → true ≡ has f mask → t ≡ change s k (join (unpack mask) (flags_at s k)) s.queue s.count → t ≡ entered (unpack mask) s k
@@ -52,11 +47,6 @@ commoned_is s t u k f n e et eu en =
 -- the marking queue takes a row whose flags just changed
 pub mark_placed : (s : Walk) (k g : ℕ) (q p : Marks) (f : Flags) (w : Waits) (c : ℕ) → k < length s.rows → p ≡ place_mark (change s k f w c).rows (record { row = k; generation = g }) q → p ≡ enter (record { date = (row s k).date; value = record { row = k; generation = g } }) q
 mark_placed s k g q p f w c l e = e ∙ ap {B = Marks} (λ d. enter (record { date = d; value = record { row = k; generation = g } }) q) (date_kept s k f w c l)
-
--- POPPED set at a drawn row, and the count lowered
-pub taken_is : (s t u : Walk) (k f n : ℕ) (q : Waits) → unpack f ≡ flags_at s k → t ≡ change (drawn s q) k (join POPPED (flags_at s k)) q s.count → u ≡ recount t (t.count - n) → n ≡ cond (unpack f).common 0 1 → u ≡ taken s k q
-taken_is s t u k f n q e et eu en =
-    eu ∙ ap (λ (x : Walk). recount x (x.count - n)) et ∙ ap (λ (m : ℕ). change s k (join POPPED (flags_at s k)) q (s.count - m)) (en ∙ ap (λ (g : Flags). cond g.common 0 1) e)
 
 -- a row's parent, now and then
 pub parent_then : (s t : Walk) (k n : ℕ) (p : ObjectId) → Ext s t → k < length s.rows → p ≡ get_or (row t k).parents n no_id → p ≡ get_or (row s k).parents n no_id

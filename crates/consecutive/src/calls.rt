@@ -12,15 +12,11 @@ use walk::state::State;
 use walk::state::making::Buffers;
 
 impl Negotiator for Algorithm {
-    const NUMBER: u8 = 1;
+    const ALGORITHM: model::Algorithm = model::Algorithm::Consecutive;
 
-    ghost algorithm = { algorithms.Consecutive };
+    ghost ALGORITHM = { algorithms.Consecutive };
 
     ghost walk = { λ a. view a.state };
-
-    fn which(&self) -> u8 {
-        Self::NUMBER
-    }
 
     fn new(buffers: Buffers) -> Algorithm {
         Algorithm {
@@ -33,9 +29,7 @@ impl Negotiator for Algorithm {
     }
 
     fn known_common<S: Source>(&mut self, source: &S, id: ObjectId) -> Result<(), Denial> {
-        if self.state.is_stopped() {
-            return Err(Denial::Stopped);
-        }
+        self.state.going()?;
         if self.state.has_seen(id) {
             return Ok(());
         }
@@ -44,16 +38,12 @@ impl Negotiator for Algorithm {
     }
 
     fn add_tip<S: Source>(&mut self, source: &S, id: ObjectId) -> Result<(), Denial> {
-        if self.state.is_stopped() {
-            return Err(Denial::Stopped);
-        }
+        self.state.going()?;
         self.push(source, id, Flags::SEEN)
     }
 
     fn next_have<S: Source>(&mut self, source: &S) -> Result<Option<usize>, Denial> {
-        if self.state.is_stopped() {
-            return Err(Denial::Stopped);
-        }
+        self.state.going()?;
         self.next(source)
     }
 
@@ -62,9 +52,7 @@ impl Negotiator for Algorithm {
         source: &S,
         id: ObjectId,
     ) -> Result<bool, Denial> {
-        if self.state.is_stopped() {
-            return Err(Denial::Stopped);
-        }
+        self.state.going()?;
         let known = self.state.has_common(id);
         self.mark_common(
             source,

@@ -1,5 +1,5 @@
 // Drawing from the queue, and what a drawn row passes on to its parents.
-ghost use Rattle.std.specs.Prelude.{◌≡◌, ◌<◌, Bool, not, length};
+ghost use Rattle.std.specs.Prelude.{◌≡◌, ◌<◌, ◌⊎◌, length};
 ghost use Rattle.model.specs.Consecutive.{passes_both, passed_on, PushUnseen, Pass, Next};
 ghost use Rattle.model.specs.Parts.{ended, PassedOne, Drew, haves};
 ghost use Rattle.model.specs.Steady.{Ext};
@@ -7,22 +7,28 @@ ghost use Rattle.model.specs.View.{unpack};
 ghost use Rattle.consecutive.specs.Seen.{walk, parents_at};
 
 use crate::Algorithm;
-use crate::marking::{Ancestors, Mark, uncommon};
+use crate::marking::{Ancestors, Mark};
 use book::types::{Denial, Flags};
 use model::Turn;
 use source::{ObjectId, Source};
 
-// What a drawn row of these flags is for: whether it is answered, and whether it passes on COMMON beside SEEN.
-fn outcome(flags: Flags) -> (bool, bool)
-    ensures { (result.0 ≡ not (unpack flags.bits).common) × (result.1 ≡ passes_both (unpack flags.bits)) }
+// Whether a drawn row of these flags passes on COMMON beside SEEN.
+fn passes_both(flags: Flags) -> bool
+    ensures { result ≡ passes_both (unpack flags.bits) }
 {
-    if flags.intersects(Flags::COMMON) {
-        return (false, true);
+    flags.intersects(Flags::COMMON) || flags.intersects(Flags::COMMON_REF)
+}
+
+// The flags that a drawn row passes on.
+fn passed_on(both: bool) -> Flags
+    ensures is { unpack result.bits ≡ passed_on both }
+    ensures bits { (result.bits ≡ 8) ⊎ (result.bits ≡ 12) }
+{
+    if both {
+        Flags::COMMON_AND_SEEN
+    } else {
+        Flags::SEEN
     }
-    if flags.intersects(Flags::COMMON_REF) {
-        return (true, true);
-    }
-    (true, false)
 }
 
 impl Algorithm {
@@ -34,10 +40,7 @@ impl Algorithm {
         if self.state.has_seen(id) {
             return Ok(());
         }
-        if both {
-            return self.push(source, id, Flags::COMMON_AND_SEEN);
-        }
-        self.push(source, id, Flags::SEEN)
+        self.push(source, id, passed_on(both))
     }
 
     // A drawn row passes on to one parent.
@@ -58,6 +61,7 @@ impl Algorithm {
         ensures is { Pass (S.meaning source.now) both (parents_at self.old row) (walk self.old) (ended result (walk self.new)) }
         ensures grows { Ext (walk self.old) (walk self.new) }
     {
+        // By number, since the parents lie in the book that the body fills.
         let count = self.state.head(row).parents;
         for n in 0..count {
             let parent = self.state.parent(row, n);
@@ -71,20 +75,12 @@ impl Algorithm {
         ensures is { Drew (walk self.old) result (walk self.new) }
         ensures grows { Ext (walk self.old) (walk self.new) }
     {
-        let Some(row) = self.state.dequeue() else {
-            return None;
-        };
-        if self.state.is_spent() {
-            return None;
-        }
-        let flags = self.state.head(row).flags;
-        self.state.set_flags(row, Flags::POPPED);
-        self.state.lower_count(uncommon(flags));
-        let (answered, both) = outcome(flags);
+        let drawn = self.state.draw()?;
+        let flags = drawn.had.flags;
         Some(Turn {
-            row,
-            answered,
-            both,
+            row: drawn.row,
+            answered: !flags.intersects(Flags::COMMON),
+            both: passes_both(flags),
         })
     }
 
@@ -92,14 +88,12 @@ impl Algorithm {
     pub(crate) fn next<S: Source>(&mut self, source: &S) -> Result<Option<usize>, Denial>
         ensures is { Next (S.meaning source.now) (walk self.old) (haves result) (walk self.new) }
     {
-        loop {
-            let Some(turn) = self.draw_row() else {
-                break Ok(None);
-            };
+        while let Some(turn) = self.draw_row() {
             self.pass(source, turn.row, turn.both)?;
             if turn.answered {
-                break Ok(Some(turn.row));
+                return Ok(Some(turn.row));
             }
         }
+        Ok(None)
     }
 }

@@ -10,7 +10,8 @@ pub mod calls;
 mod drawing;
 mod marking;
 
-// What holds of the state between calls is part of the type, so that no call asks anything of its caller.
+// What holds of the state between calls is part of the type, so that no call asks anything of its caller. Each walk has a
+// struct of its own: the steps of a generic one in another crate could be no methods.
 #[derive(Drop)]
 pub struct Algorithm {
     state: State,

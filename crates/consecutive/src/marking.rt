@@ -1,4 +1,5 @@
-// Pushing a row into the queue, and marking the ancestors of a commit as common.
+// Pushing a row into the queue, and marking the ancestors of a commit as common. What many clauses say here (`Ext`, `Quiet`, that
+// a row is inside) is one word or one inequality each, of another row each time: a name would be no plainer.
 ghost use Rattle.std.specs.Prelude.{◌≡◌, ℕ, ◌+◌, ◌<◌, ◌≤◌, Bool, true, false, ◌||◌, ◌⊎◌, [], length, if◌then◌else◌, nat_lt};
 ghost use Rattle.model.specs.Book.{flags_at};
 ghost use Rattle.model.specs.Steps.{sees};
@@ -7,29 +8,23 @@ ghost use Rattle.model.specs.Parts.{Looks, ended, Spread, SpreadOne, Visited};
 ghost use Rattle.model.specs.Steady.{Ext, common_rows};
 ghost use Rattle.model.specs.View.{unpack, Admits};
 ghost use Rattle.walk.specs.View.{Aside, Quiet};
-ghost use Rattle.consecutive.specs.Seen.{walk, marks, parents_at, Held, itself, all};
+ghost use Rattle.consecutive.specs.Seen.{walk, marks, parents_at, Held, Keeps, itself, all};
 
 use crate::Algorithm;
 use book::types::{Denial, Flags};
 use model::Step;
 use source::{ObjectId, Source};
+use walk::state::drawing::uncommon;
 
-#[derive(Clone, Copy)]
+// Whether a mark sets COMMON at the commit itself too. Two named choices, and no closures: the rules know no other.
+#[derive(Clone, Copy, Debug, PartialEq, Eq)]
 pub(crate) enum Mark {
     AncestorsOnly,
     ThisCommitAndAncestors,
 }
 
-impl Mark {
-    fn is_itself(self) -> bool
-        ensures { result ≡ itself self }
-    {
-        matches!(self, Mark::ThisCommitAndAncestors)
-    }
-}
-
 // How far a mark reaches.
-#[derive(Clone, Copy)]
+#[derive(Clone, Copy, Debug, PartialEq, Eq)]
 pub(crate) enum Ancestors {
     // Two generations.
     DirectUnseen,
@@ -46,26 +41,11 @@ impl Ancestors {
     }
 }
 
-// 1 for a row that lacks COMMON, else 0.
-pub(crate) fn uncommon(flags: Flags) -> usize
-    ensures { result ≡ (if (unpack flags.bits).common then 0 else 1) }
-{
-    if flags.intersects(Flags::COMMON) {
-        0
-    } else {
-        1
-    }
-}
-
 // 1 for a row that has SEEN without POPPED, else 0.
 fn unpopped(flags: Flags) -> usize
     ensures { result ≡ (if waits (unpack flags.bits) then 1 else 0) }
 {
-    if flags.intersects(Flags::SEEN) && !flags.intersects(Flags::POPPED) {
-        1
-    } else {
-        0
-    }
+    usize::from(flags.intersects(Flags::SEEN) && !flags.intersects(Flags::POPPED))
 }
 
 impl Algorithm {
@@ -99,7 +79,8 @@ impl Algorithm {
 }
 
 impl Algorithm {
-    // The row of an id, which comes in from the source where there is none yet.
+    // The row of an id, which comes in from the source where there is none yet. A step of its own, so that the type's
+    // invariant is shown once for all calls that look up.
     fn lookup<S: Source>(&mut self, source: &S, id: ObjectId) -> Result<Option<usize>, Denial>
         ensures is { Looks (S.meaning source.now) (walk self.old) id (walk self.new) result }
         ensures quiet { Quiet self.old.state self.new.state }
@@ -135,9 +116,7 @@ impl Algorithm {
         requires held { Held self.old 0 }
         requires young { generation ≤ common_rows (walk self.old) }
         ensures is { SpreadOne (S.meaning source.now) generation id (marks self.old) (walk self.old) result (marks self.new) (walk self.new) }
-        ensures held { Held self.new 0 }
-        ensures grows { Ext (walk self.old) (walk self.new) }
-        ensures pays { length (marks self.new) + common_rows (walk self.old) ≤ length (marks self.old) + common_rows (walk self.new) }
+        ensures keeps { Keeps self.old self.new }
     {
         let Some(row) = self.lookup(source, id)? else {
             return Ok(());
@@ -163,10 +142,9 @@ impl Algorithm {
         requires held { Held self.old 0 }
         requires young { generation ≤ common_rows (walk self.old) }
         ensures is { Spread (S.meaning source.now) generation (parents_at self.old row) (marks self.old) (walk self.old) result (marks self.new) (walk self.new) }
-        ensures held { Held self.new 0 }
-        ensures grows { Ext (walk self.old) (walk self.new) }
-        ensures pays { length (marks self.new) + common_rows (walk self.old) ≤ length (marks self.old) + common_rows (walk self.new) }
+        ensures keeps { Keeps self.old self.new }
     {
+        // By number, since the parents lie in the book that the body fills.
         let count = self.state.head(row).parents;
         for n in 0..count {
             let parent = self.state.parent(row, n);
@@ -186,9 +164,7 @@ impl Algorithm {
         requires held { Held self.old 0 }
         requires young { step.generation ≤ common_rows (walk self.old) }
         ensures is { Visited (S.meaning source.now) (all ancestors) step (marks self.old) (walk self.old) result (marks self.new) (walk self.new) }
-        ensures held { Held self.new 0 }
-        ensures grows { Ext (walk self.old) (walk self.new) }
-        ensures pays { length (marks self.new) + common_rows (walk self.old) ≤ length (marks self.old) + common_rows (walk self.new) }
+        ensures keeps { Keeps self.old self.new }
     {
         if !self.state.head(step.row).flags.intersects(Flags::SEEN) {
             self.admit(step.row, Flags::SEEN);
@@ -240,8 +216,9 @@ impl Algorithm {
         if self.state.head(row).flags.intersects(Flags::COMMON) {
             return Ok(());
         }
+        // Two calls of `spread`, since a proof loses what is known of the walk where branches join.
         self.begin_marking(row);
-        if mode.is_itself() {
+        if mode == Mark::ThisCommitAndAncestors {
             self.make_common(row);
             return self.spread(source, ancestors);
         }

@@ -1,14 +1,12 @@
 -- The scan of a store finds just the pairs that are written in it.
-use Rattle.std.proofs.Common.{◌≡◌, ℕ, zero, suc, ◌+◌, ◌-◌, ◌*◌, ◌<◌, ◌≤◌, Bool, true, false, cond, eqb, ltb, List, [], ◌∷◌, ◌++◌, length, get_or, take, drop, sym, refl, ap, ◌∙◌, subst, arith, length-append, length-drop, length-take-le, drop-drop, take_at, drop_at, ltb-false, ltb-true, le-ltb, eq-eqb, ne_eqb, eqb-true}
+use Rattle.std.proofs.Common.{◌≡◌, ℕ, zero, suc, ◌+◌, ◌-◌, ◌*◌, ◌<◌, ◌≤◌, Bool, true, false, cond, eqb, ltb, List, [], ◌∷◌, ◌++◌, length, get_or, take, drop, Some, None, Ok, Err, sym, refl, ap, ◌∙◌, subst, arith, length-append, length-drop, length-take-le, drop-drop, take_at, drop_at, ltb-false, ltb-true, le-ltb, eq-eqb, ne_eqb, eqb-true}
 use Rattle.std.specs.Str.{bytes_eq}
 use Rattle.std.proofs.lemmas.Slice.Eq.{bytes_eq-Decides}
 use Rattle.std.proofs.lemmas.List.{take-append-drop, drop_all}
 use Rattle.source.specs.declared.Cause.{Cause}
 use Rattle.source.specs.declared.Cause.TheVariants.{PastEnd, Misplaced}
-use Rattle.fields.specs.declared.Found.{Found}
-use Rattle.fields.specs.declared.Found.TheVariants.{Absent, Bad, At}
 use Rattle.fields.specs.Fields.{long, body_of, Field}
-use Rattle.fields.specs.Pairs.{Pairing, bad, good, text_of, pair_of, pair_at, go_on, scan}
+use Rattle.fields.specs.Pairs.{Found, Pairing, bad, good, text_of, pair_of, pair_at, go_on, scan}
 use Rattle.fields.specs.Laws.{Whole, Entry, Others, done, more, Placed, Missing, Finds}
 use Rattle.fields.proofs.Past.{pair_is}
 use Rattle.fields.proofs.Scans.{opened, ended}
@@ -24,22 +22,16 @@ field_of tag body rest bs w =
     let whole : length bs ≡ 3 + (length body + length rest) = ap length w.is ∙ let z = length-append body rest in omega (arith, z) in
     record {
       within = omega (arith, size, whole);
-      tagged = sym (ap (λ (l : List ℕ). get_or l 0 0) w.is);
-      holds = sym (ap (λ (n : ℕ). take n (drop 3 bs)) size ∙ ap (take (length body)) tail ∙ take_at body rest (length body) refl);
+      tagged = rw w.is;
+      holds = rw (size, tail, take_at body rest (length body) refl);
       held = sym size;
-      goes = sym (sym (drop-drop (long bs) 3 bs) ∙ ap (λ (n : ℕ). drop n (drop 3 bs)) size ∙ ap (drop (length body)) tail ∙ drop_at body rest (length body) refl);
+      goes = rw (sym (drop-drop (long bs) 3 bs), size, tail, drop_at body rest (length body) refl);
       left = omega (arith, size, whole);
     }
 
 text_good : (id mid text rest : List ℕ) (before at : ℕ) → Field mid 2 text rest → text_of id mid before at ≡ good id text (at + 3) (at + 3 + length text)
 text_good id mid text rest before at f =
-    let go = good id (body_of mid) (at + 3) (at + 3 + long mid) in
-    let tests = cond (eqb (get_or mid 0 0) 2) go (bad Misplaced at) in
-    ap (λ (b : Bool). cond b (bad Misplaced before) (cond (ltb (length mid) (3 + long mid)) (bad PastEnd at) tests)) (ne_eqb (length mid) 0 (λ z. let h = f.within in omega (arith, h, z)))
-    ∙ ap (λ (b : Bool). cond b (bad PastEnd at) tests) (le-ltb (length mid) (3 + long mid) f.within)
-    ∙ ap (λ (b : Bool). cond b go (bad Misplaced at)) (eq-eqb (get_or mid 0 0) 2 (sym f.tagged))
-    ∙ ap (λ (t : List ℕ). good id t (at + 3) (at + 3 + long mid)) (sym f.holds)
-    ∙ ap (λ (n : ℕ). good id text (at + 3) (at + 3 + n)) (sym f.held)
+    rw (ne_eqb (length mid) 0 (λ z. let h = f.within in omega (arith, h, z)), le-ltb (length mid) (3 + long mid) f.within, eq-eqb (get_or mid 0 0) 2 (sym f.tagged), sym f.holds, sym f.held)
 
 -- a pair as it is written is the first pair
 entry_good : (id text rest bs : List ℕ) (at : ℕ) → Entry id text rest bs → pair_of bs at ≡ good id text (at + 23 + 3) (at + 23 + 3 + length text)
@@ -138,19 +130,19 @@ module _ (store id : List ℕ) where
         enough = omega (arith, z, b.enough);
       }
 
-  step : (other text next bs : List ℕ) (at n : ℕ) → Begins bs at (suc n) → Entry other text next bs → scan (suc n) id store at ≡ cond (bytes_eq other id) (At at) (scan n id store (at + (26 + length text)))
+  step : (other text next bs : List ℕ) (at n : ℕ) → Begins bs at (suc n) → Entry other text next bs → scan (suc n) id store at ≡ cond (bytes_eq other id) (Ok (Some at)) (scan n id store (at + (26 + length text)))
   step other text next bs at n b e =
       let z = entry_sizes other text next bs e in
       let k : at + 23 + 3 + length text ≡ at + (26 + length text) = omega arith in
       opened id store n at (good other text (at + 23 + 3) (at + 23 + 3 + length text)) (omega (arith, z, b.sums)) (sym (entry_good other text next bs at e) ∙ ap (λ (l : List ℕ). pair_of l at) (sym b.is))
-      ∙ ap (λ (m : ℕ). cond (bytes_eq other id) (At at) (scan n id store m)) k
+      ∙ ap (λ (m : ℕ). cond (bytes_eq other id) (Ok (Some at)) (scan n id store m)) k
 
   past_one : (found : Found) (other text next bs : List ℕ) (at n : ℕ) → Begins bs at n → Entry other text next bs → (other ≡ id → ⊥)
       → ((k : ℕ) → Begins next (at + (26 + length text)) k → scan k id store (at + (26 + length text)) ≡ found) → scan n id store at ≡ found
   past_one found other text next bs at zero b e ne go = absurd (let z = entry_sizes other text next bs e in let h = b.enough in omega (arith, z, h))
   past_one found other text next bs at (suc n) b e ne go =
       step other text next bs at n b e
-      ∙ ap (λ (t : Bool). cond t (At at) (scan n id store (at + (26 + length text)))) (same_false other id (bytes_eq other id) refl ne)
+      ∙ ap (λ (t : Bool). cond t (Ok (Some at)) (scan n id store (at + (26 + length text)))) (same_false other id (bytes_eq other id) refl ne)
       ∙ go n (behind other text next bs at n b e)
 
   -- what a scan gives behind pairs of other ids
@@ -166,28 +158,28 @@ module _ (store id : List ℕ) where
   whole : Begins store 0 (length store)
   whole = record { is = refl; sums = omega arith; enough = omega arith }
 
-  placed_found : (p : ℕ) → Placed store id p → scan (length store) id store 0 ≡ At p
+  placed_found : (p : ℕ) → Placed store id p → scan (length store) id store 0 ≡ Ok (Some p)
   placed_found p w =
       let z : 0 + p ≡ p = omega arith in
-      past At w.left store 0 p (length store) whole w.others (λ m b. at_left m b) ∙ ap At z
+      past (λ (q : ℕ). Ok (Some q)) w.left store 0 p (length store) whole w.others (λ m b. at_left m b) ∙ ap (λ (q : ℕ). Ok (Some q)) z
     where
-      at_left : (m : ℕ) → Begins w.left (0 + p) m → scan m id store (0 + p) ≡ At (0 + p)
+      at_left : (m : ℕ) → Begins w.left (0 + p) m → scan m id store (0 + p) ≡ Ok (Some (0 + p))
       at_left zero b = absurd (let y = entry_sizes id w.text w.rest w.left w.entry in let h = b.enough in omega (arith, y, h))
-      at_left (suc m) b = step id w.text w.rest w.left (0 + p) m b w.entry ∙ ap (λ (t : Bool). cond t (At (0 + p)) (scan m id store (0 + p + (26 + length w.text)))) (same_true id id refl)
+      at_left (suc m) b = step id w.text w.rest w.left (0 + p) m b w.entry ∙ ap (λ (t : Bool). cond t (Ok (Some (0 + p))) (scan m id store (0 + p + (26 + length w.text)))) (same_true id id refl)
 
-  missing_found : Missing store id → scan (length store) id store 0 ≡ Absent
-  missing_found w = past (λ _. Absent) [] store 0 w.size (length store) whole w.others (λ m b. ended id store m (0 + w.size) (let h = b.sums in omega (arith, h)))
+  missing_found : Missing store id → scan (length store) id store 0 ≡ Ok None
+  missing_found w = past (λ _. Ok None) [] store 0 w.size (length store) whole w.others (λ m b. ended id store m (0 + w.size) (let h = b.sums in omega (arith, h)))
 
   -- what a scan from `at` on shows of the bytes there
   abbrev Shown : Found → ℕ → List ℕ → Type 0
-  Shown Absent at bs = Missing bs id
-  Shown (Bad c p) at bs = Unit {0}
-  Shown (At p) at bs = (q : ℕ) × (p ≡ at + q) × Placed bs id q
+  Shown (Ok None) at bs = Missing bs id
+  Shown (Err m) at bs = Unit {0}
+  Shown (Ok (Some p)) at bs = (q : ℕ) × (p ≡ at + q) × Placed bs id q
 
   prepend : (f : Found) (other text next bs : List ℕ) (at : ℕ) → Entry other text next bs → (other ≡ id → ⊥) → Shown f (at + (26 + length text)) next → Shown f at bs
-  prepend Absent other text next bs at e ne s = record { size = 26 + length text + s.size; others = more other text next bs s.size (26 + length text + s.size) e ne s.others refl }
-  prepend (Bad c p) other text next bs at e ne s = tt
-  prepend (At p) other text next bs at e ne s =
+  prepend (Ok None) other text next bs at e ne s = record { size = 26 + length text + s.size; others = more other text next bs s.size (26 + length text + s.size) e ne s.others refl }
+  prepend (Err m) other text next bs at e ne s = tt
+  prepend (Ok (Some p)) other text next bs at e ne s =
       let w = s.2 in (
         26 + length text + s.0,
         omega (arith, s.1),
@@ -198,7 +190,7 @@ module _ (store id : List ℕ) where
   at_end at le = record { size = 0; others = done (drop at store) 0 (drop_all at store le) refl }
 
   module _ (at n : ℕ) (lt : at < length store) (go : (e : ℕ) → at < e → e ≤ length store → Shown (scan n id store e) e (drop e store)) where
-    by_same : (name t : List ℕ) (k e : ℕ) → good name t k e ≡ pair_at store at → (b : Bool) → bytes_eq name id ≡ b → Shown (cond b (At at) (scan n id store e)) at (drop at store)
+    by_same : (name t : List ℕ) (k e : ℕ) → good name t k e ≡ pair_at store at → (b : Bool) → bytes_eq name id ≡ b → Shown (cond b (Ok (Some at)) (scan n id store e)) at (drop at store)
     by_same name t k e is true same =
         let g = good_entry (drop at store) at name t k e is in
         let z : name ≡ id = (bytes_eq-Decides name id).0 same in
@@ -217,7 +209,7 @@ module _ (store id : List ℕ) where
     by_pair (bad c p) is = tt
     by_pair (good name t k e) is = by_same name t k e is (bytes_eq name id) refl
 
-  by_end : (n at : ℕ) (b : Bool) → ltb at (length store) ≡ b → ((e : ℕ) → at < e → e ≤ length store → Shown (scan n id store e) e (drop e store)) → Shown (cond b (go_on (scan n id store) id at (pair_at store at)) Absent) at (drop at store)
+  by_end : (n at : ℕ) (b : Bool) → ltb at (length store) ≡ b → ((e : ℕ) → at < e → e ≤ length store → Shown (scan n id store e) e (drop e store)) → Shown (cond b (go_on (scan n id store) id at (pair_at store at)) (Ok None)) at (drop at store)
   by_end n at true is go = by_pair at n (ltb-true at (length store) is) go (pair_at store at) refl
   by_end n at false is go = at_end at (ltb-false at (length store) is)
 
@@ -225,13 +217,13 @@ module _ (store id : List ℕ) where
   shown zero at le = at_end at (omega arith)
   shown (suc n) at le = by_end n at (ltb at (length store)) refl (λ e lt in-store. shown n e (omega arith))
 
-  found_placed : (p : ℕ) → scan (length store) id store 0 ≡ At p → Placed store id p
+  found_placed : (p : ℕ) → scan (length store) id store 0 ≡ Ok (Some p) → Placed store id p
   found_placed p is =
-      let s : Shown (At p) 0 store = subst (λ (f : Found). Shown f 0 store) is (shown (length store) 0 (omega arith)) in
+      let s : Shown (Ok (Some p)) 0 store = subst (λ (f : Found). Shown f 0 store) is (shown (length store) 0 (omega arith)) in
       let z : s.0 ≡ p = omega (arith, s.1) in
       subst (Placed store id) z s.2
 
-  found_missing : scan (length store) id store 0 ≡ Absent → Missing store id
+  found_missing : scan (length store) id store 0 ≡ Ok None → Missing store id
   found_missing is = subst (λ (f : Found). Shown f 0 store) is (shown (length store) 0 (omega arith))
 
   -- the laws of what a scan finds

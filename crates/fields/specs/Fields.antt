@@ -1,5 +1,5 @@
 -- The fields of a buffer: one tag byte, two length bytes, the high one first, and that many bytes.
-use Rattle.std.specs.Prelude.{◌≡◌, ℕ, ◌+◌, ◌*◌, ◌≤◌, List, length, take, drop, slice_index}
+use Rattle.std.specs.Prelude.{◌≡◌, ℕ, ◌+◌, ◌*◌, ◌/◌, ◌%◌, ◌≤◌, List, ◌∷◌, length, take, drop, slice_index}
 
 -- the length that the first field gives
 abbrev pub long : List ℕ → ℕ
@@ -17,3 +17,7 @@ pub record Field (bs : List ℕ) (tag : ℕ) (body rest : List ℕ) : Type 0 whe
   pub held : length body ≡ long bs
   pub goes : rest ≡ drop (3 + long bs) bs
   pub left : length rest + (3 + long bs) ≡ length bs
+
+-- a field as it is written
+abbrev pub written : ℕ → List ℕ → List ℕ
+written tag body = tag ∷ length body / 256 ∷ length body % 256 ∷ body

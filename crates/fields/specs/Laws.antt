@@ -1,7 +1,6 @@
 -- How a store is written: an id and its text, one pair after another.
-use Rattle.std.specs.Prelude.{◌≡◌, ℕ, ◌+◌, ◌*◌, List, [], ◌∷◌, ◌++◌, length, ◌≢◌}
-use Rattle.fields.specs.declared.Found.{Found}
-use Rattle.fields.specs.declared.Found.TheVariants.{Absent, At}
+use Rattle.std.specs.Prelude.{◌≡◌, ℕ, ◌+◌, ◌*◌, List, [], ◌∷◌, ◌++◌, length, ◌≢◌, Some, None, Ok}
+use Rattle.fields.specs.Pairs.{Found}
 
 -- a field as it is written, before the rest: a tag, two length bytes with the high one first, and so many bytes
 pub record Whole (tag : ℕ) (body rest bs : List ℕ) : Type 0 where
@@ -37,7 +36,7 @@ pub record Missing (store id : List ℕ) : Type 0 where
 
 -- what is found of an id is what is written in the store
 pub record Finds (store id : List ℕ) (found : Found) : Type 0 where
-  pub takes : (p : ℕ) → Placed store id p → found ≡ At p
-  pub placed : (p : ℕ) → found ≡ At p → Placed store id p
-  pub lacks : Missing store id → found ≡ Absent
-  pub missing : found ≡ Absent → Missing store id
+  pub takes : (p : ℕ) → Placed store id p → found ≡ Ok (Some p)
+  pub placed : (p : ℕ) → found ≡ Ok (Some p) → Placed store id p
+  pub lacks : Missing store id → found ≡ Ok None
+  pub missing : found ≡ Ok None → Missing store id

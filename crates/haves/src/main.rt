@@ -6,11 +6,11 @@ use std::io;
 use std::io::Read;
 
 // One byte more than an input may have, so that a longer one is told.
-const MOST_BYTES: u64 = 65_537;
+const READ_AT_MOST: u64 = 65_537;
 
 fn main(rt: HostRuntime) -> io::Result<()> {
     let mut bytes = Vec::new(rt.alloc());
-    rt.stdin().take(MOST_BYTES).read_to_end(&mut bytes)?;
+    rt.stdin().take(READ_AT_MOST).read_to_end(&mut bytes)?;
     let text = transcript(rt.alloc(), bytes.as_slice())?;
     print!(rt; "{text}")
 }

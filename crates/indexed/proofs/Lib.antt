@@ -1,3 +1,1 @@
-pub mod Leasts
-pub mod Places
-pub mod Collects
+pub mod Notes

@@ -1,31 +1,33 @@
 // A store with an index: opened in one pass, then a question costs one search of the index and one text.
 #![tactic(auto)]
 
-ghost use Rattle.std.specs.Prelude.{◌≡◌, ℕ, List, length};
+ghost use Rattle.std.specs.Prelude.{◌≡◌, length};
 ghost use Rattle.std.specs.BTreeMap.{get as place_in, IsOrdered, keys};
 ghost use Rattle.std.proofs.lemmas.Map.Keys.{IsStrictlySortedBy-prop};
+ghost use Rattle.source.specs.declared.ObjectId.{ObjectId as Id};
 ghost use Rattle.fields.specs.Pairs.{scan};
 ghost use Rattle.store.specs.Stores.{store_of};
-ghost use Rattle.indexed.specs.Spots.{by_bytes, known};
+ghost use Rattle.indexed.specs.Places.{by_bytes, known};
 
-use fields::Found;
+use fields::Misfit;
 use source::{Fault, Kind, ObjectId, Source};
 use std::collections::BTreeMap;
 
 mod opening;
-pub mod spots;
 
-// A store with the place of each id's first pair, and with what any other id is: absent, or failing where the fields
-// end too soon. It means what the plain store of its bytes means.
+// A store with the place of each id's first pair, and with what any other id is: absent, or failing where the store
+// misfits. It means what the plain store of its bytes means.
 #[derive(Drop)]
 pub struct Indexed<'a> {
     bytes: &'a [u8],
-    rest: Found,
-    map: BTreeMap<[u8; 20], usize>,
+    rest: Result<(), Misfit>,
+    map: BTreeMap<ObjectId, usize>,
     ghost lawful: { IsOrdered by_bytes map } by { IsStrictlySortedBy-prop by_bytes (keys map) },
-    ghost agrees: { (q : List ℕ) → known (place_in by_bytes map q) rest ≡ scan (length bytes.now) q bytes.now 0 },
+    ghost agrees: { (q : Id) → known (place_in by_bytes map q) rest ≡ scan (length bytes.now) q.bytes bytes.now 0 },
 }
 
+// The plain store has these six methods too. A wrapper generic in the search, with its bound and its laws, would be no
+// shorter, and Rust takes no impl of another crate's trait for every type that looks ids up.
 impl Source for Indexed<'_> {
     ghost meaning = { λ s id. store_of s.bytes.now id };
 

@@ -1,6 +1,10 @@
 -- Fields of an input, one after another.
-use Rattle.std.proofs.Common.{◌≡◌, ℕ, zero, suc, ◌+◌, ◌<◌, ◌≤◌, Bool, true, false, cond, eqb, List, [], length, get_or, take, is_some, Some, None, Option, sym, refl, ap, ◌∙◌, arith, length-drop, le-ltb, lt-ltb, eq-eqb, ne_eqb}
+use Rattle.std.proofs.Common.{◌≡◌, ℕ, zero, suc, ◌+◌, ◌<◌, ◌≤◌, Bool, true, false, cond, eqb, List, [], length, get_or, take, is_some, Some, None, Option, Ok, sym, refl, ap, ◌∙◌, subst, arith, length-drop, le-ltb, lt-ltb, eq-eqb, ne_eqb}
 use Rattle.fields.specs.Fields.{long, body_of, Field}
+use Rattle.fields.specs.Steps.{GivesField}
+use Rattle.fields.specs.declared.Field.{Field as FieldRead}
+use Rattle.fields.specs.declared.Fields.{Fields}
+use Rattle.fields.specs.declared.tail.Tail.{Tail}
 use Rattle.model.specs.declared.Call.{Call}
 use Rattle.input.specs.Inputs.{pastb, behind_field, call_of, misfit_from, on_call, call_list, calls_of, Parsed, bad, numbered, store_then}
 
@@ -8,19 +12,13 @@ use Rattle.input.specs.Inputs.{pastb, behind_field, call_of, misfit_from, on_cal
 module _ {Y : Type 0} (go : ℕ → List ℕ → ℕ → Y) (stop cut : ℕ → Y) (one : (ℕ → List ℕ → ℕ → Y) → ℕ → List ℕ → ℕ → Y)
     (turn : (n : ℕ) (bs : List ℕ) (at : ℕ) → go (suc n) bs at ≡ cond (eqb (length bs) 0) (stop at) (cond (pastb bs) (cut at) (one go n bs at))) where
   pub at_stop : (n : ℕ) (bs : List ℕ) (at : ℕ) → length bs ≤ suc n → length bs ≡ 0 → go (suc n) bs at ≡ stop at
-  at_stop n bs at le e = turn n bs at ∙ ap (λ (b : Bool). cond b (stop at) (cond (pastb bs) (cut at) (one go n bs at))) (eq-eqb _ _ e)
+  at_stop n bs at le e = rw (turn n bs at, eq-eqb (length bs) 0 e)
 
   pub at_cut : (n : ℕ) (bs : List ℕ) (at : ℕ) → 0 < length bs → length bs < 3 + long bs → go (suc n) bs at ≡ cut at
-  at_cut n bs at some short =
-      turn n bs at
-      ∙ ap (λ (b : Bool). cond b (stop at) (cond (pastb bs) (cut at) (one go n bs at))) (ne_eqb (length bs) 0 (λ z. omega arith))
-      ∙ ap (λ (b : Bool). cond b (cut at) (one go n bs at)) (lt-ltb _ _ short)
+  at_cut n bs at some short = rw (turn n bs at, ne_eqb (length bs) 0 (λ z. omega arith), lt-ltb (length bs) (3 + long bs) short)
 
   pub at_field : (n : ℕ) (bs : List ℕ) (at : ℕ) → 3 + long bs ≤ length bs → go (suc n) bs at ≡ one go n bs at
-  at_field n bs at fits =
-      turn n bs at
-      ∙ ap (λ (b : Bool). cond b (stop at) (cond (pastb bs) (cut at) (one go n bs at))) (ne_eqb (length bs) 0 (λ z. omega arith))
-      ∙ ap (λ (b : Bool). cond b (cut at) (one go n bs at)) (le-ltb _ _ fits)
+  at_field n bs at fits = rw (turn n bs at, ne_eqb (length bs) 0 (λ z. omega arith), le-ltb (length bs) (3 + long bs) fits)
 
   module _ (zero_is : (bs : List ℕ) (at : ℕ) → go zero bs at ≡ stop at) (all : List ℕ) (from : ℕ) where
     -- how far the fields are read
@@ -29,9 +27,6 @@ module _ {Y : Type 0} (go : ℕ → List ℕ → ℕ → Y) (stop cut : ℕ → 
       pub turns : ℕ
       pub enough : length rest ≤ turns
       pub gives : go turns rest place ≡ go (length all) all from
-
-    pub start : Sofar all from
-    start = record { sums = refl; turns = length all; enough = omega arith; gives = refl }
 
     stop_by : (n : ℕ) (rest : List ℕ) (place : ℕ) → length rest ≡ 0 → go n rest place ≡ stop place
     stop_by zero rest place e = zero_is rest place
@@ -67,15 +62,18 @@ module _ {Y : Type 0} (go : ℕ → List ℕ → ℕ → Y) (stop cut : ℕ → 
           gives = ap (λ (k : ℕ). go t.0 tail (place + (3 + k))) f.held ∙ ap (λ (x : List ℕ). go t.0 x (place + (3 + long rest))) f.goes ∙ sym (is t.0) ∙ sym t.2 ∙ s.gives;
         }
 
+-- behind a field that an iterator gives
+pub moved : (Q : List ℕ → ℕ → Type 0) (s t : Fields) (f : FieldRead) → GivesField s (Some (Ok f)) t → Q f.rest.bytes.now (s.rest.at + (3 + length f.body.now)) → Q t.rest.bytes.now t.rest.at
+moved Q s t f g q =
+    let at : f.rest.at ≡ s.rest.at + (3 + length f.body.now) = omega (arith, g.0, g.1) in
+    subst (λ (r : Tail). Q r.bytes.now r.at) (sym g.3) (subst (λ (n : ℕ). Q f.rest.bytes.now n) (sym at) q)
+
 -- ---- the calls
 abbrev pub misfit_one : (ℕ → List ℕ → ℕ → Option ℕ) → ℕ → List ℕ → ℕ → Option ℕ
 misfit_one go n bs at = cond (is_some (call_of (get_or bs 0 0) (body_of bs))) (go n (behind_field bs) (at + (3 + long bs))) (Some at)
 
 abbrev pub Misfits : List ℕ → ℕ → List ℕ → ℕ → Type 0
 Misfits all from = Sofar misfit_from (λ _. None) (λ at. Some at) misfit_one (λ _ _ _. refl) (λ _ _. refl) all from
-
-pub misfit_start : (all : List ℕ) (from : ℕ) → Misfits all from all from
-misfit_start all from = start misfit_from (λ _. None) (λ at. Some at) misfit_one (λ _ _ _. refl) (λ _ _. refl) all from
 
 pub misfit_ends : (all : List ℕ) (from : ℕ) (rest : List ℕ) (place : ℕ) → Misfits all from rest place → length rest ≡ 0 → None ≡ misfit_from (length all) all from
 misfit_ends all from rest place s e = ends misfit_from (λ _. None) (λ at. Some at) misfit_one (λ _ _ _. refl) (λ _ _. refl) all from rest place s e
@@ -90,41 +88,43 @@ pub misfit_here : (all : List ℕ) (from : ℕ) (rest body tail : List ℕ) (pla
     → Some place ≡ misfit_from (length all) all from
 misfit_here all from rest body tail place tag r s f e nay =
     last misfit_from (λ _. None) (λ at. Some at) misfit_one (λ _ _ _. refl) (λ _ _. refl) all from rest place (Some place) s f.within
-    (λ m. ap (λ (b : Bool). cond b (misfit_from m (behind_field rest) (place + (3 + long rest))) (Some place)) (ap is_some (same_call rest body tail tag r f e) ∙ nay))
+    (λ m. rw (same_call rest body tail tag r f e, nay))
 
 pub misfit_more : (all : List ℕ) (from : ℕ) (rest body tail : List ℕ) (place tag : ℕ) (r : Option Call) → Misfits all from rest place → Field rest tag body tail → r ≡ call_of tag body → is_some r ≡ true
     → Misfits all from tail (place + (3 + length body))
 misfit_more all from rest body tail place tag r s f e yea =
     more misfit_from (λ _. None) (λ at. Some at) misfit_one (λ _ _ _. refl) (λ _ _. refl) all from rest body tail place tag s f
-    (λ m. ap (λ (b : Bool). cond b (misfit_from m (behind_field rest) (place + (3 + long rest))) (Some place)) (ap is_some (same_call rest body tail tag r f e) ∙ yea))
+    (λ m. rw (same_call rest body tail tag r f e, yea))
 
 enough_calls : (n m : ℕ) (bs : List ℕ) → length bs ≤ n → length bs ≤ m → call_list n bs ≡ call_list m bs
 enough_calls zero zero bs a b = refl
-enough_calls zero (suc m) bs a b = sym (ap (λ (t : Bool). cond t [] (cond (pastb bs) [] (on_call (call_of (get_or bs 0 0) (body_of bs)) (call_list m (behind_field bs))))) (eq-eqb (length bs) 0 (omega arith)))
-enough_calls (suc n) zero bs a b = ap (λ (t : Bool). cond t [] (cond (pastb bs) [] (on_call (call_of (get_or bs 0 0) (body_of bs)) (call_list n (behind_field bs))))) (eq-eqb (length bs) 0 (omega arith))
+enough_calls zero (suc m) bs a b = rw (eq-eqb (length bs) 0 (omega arith))
+enough_calls (suc n) zero bs a b = rw (eq-eqb (length bs) 0 (omega arith))
 enough_calls (suc n) (suc m) bs a b =
     let l = length-drop (3 + long bs) bs in
-    ap (λ (x : List Call). cond (eqb (length bs) 0) [] (cond (pastb bs) [] (on_call (call_of (get_or bs 0 0) (body_of bs)) x))) (enough_calls n m (behind_field bs) (omega arith) (omega arith))
+    rw (enough_calls n m (behind_field bs) (omega arith) (omega arith))
 
 calls_by : (n : ℕ) (bs body tail : List ℕ) (tag : ℕ) (r : Option Call) → length bs ≤ n → Field bs tag body tail → r ≡ call_of tag body → call_list n bs ≡ on_call r (calls_of tail)
 calls_by zero bs body tail tag r le f e = elim (let g : ⊥ = omega (arith, f.within) in g) [ ]
 calls_by (suc n) bs body tail tag r le f e =
-    ap (λ (b : Bool). cond b [] (cond (pastb bs) [] (on_call (call_of (get_or bs 0 0) (body_of bs)) (call_list n (behind_field bs))))) (ne_eqb (length bs) 0 (λ z. omega (arith, f.within)))
-    ∙ ap (λ (b : Bool). cond b [] (on_call (call_of (get_or bs 0 0) (body_of bs)) (call_list n (behind_field bs)))) (le-ltb _ _ f.within)
-    ∙ ap (λ (o : Option Call). on_call o (call_list n (behind_field bs))) (same_call bs body tail tag r f e)
-    ∙ ap (λ (x : List ℕ). on_call r (call_list n x)) (sym f.goes)
-    ∙ ap (on_call r) (enough_calls n (length tail) tail (omega (arith, f.left)) (omega arith))
+    rw (
+      ne_eqb (length bs) 0 (λ z. omega (arith, f.within)),
+      le-ltb (length bs) (3 + long bs) f.within,
+      same_call bs body tail tag r f e,
+      sym f.goes,
+      enough_calls n (length tail) tail (omega (arith, f.left)) (omega arith),
+    )
 
 pub first_call : (bs body tail : List ℕ) (tag : ℕ) (r : Option Call) → Field bs tag body tail → r ≡ call_of tag body → calls_of bs ≡ on_call r (calls_of tail)
 first_call bs body tail tag r f e = calls_by (length bs) bs body tail tag r (omega arith) f e
 
 cut_by_calls : (n : ℕ) (bs : List ℕ) → length bs < 3 + long bs → call_list n bs ≡ []
 cut_by_calls zero bs h = refl
-cut_by_calls (suc n) bs h = tests (eqb (length bs) 0) ∙ refl
+cut_by_calls (suc n) bs h = tests (eqb (length bs) 0)
   where
     tests : (b : Bool) → cond b [] (cond (pastb bs) [] (on_call (call_of (get_or bs 0 0) (body_of bs)) (call_list n (behind_field bs)))) ≡ []
     tests true = refl
-    tests false = ap (λ (b : Bool). cond b [] (on_call (call_of (get_or bs 0 0) (body_of bs)) (call_list n (behind_field bs)))) (lt-ltb _ _ h)
+    tests false = rw (lt-ltb (length bs) (3 + long bs) h)
 
 pub cut_calls : (bs : List ℕ) → length bs < 3 + long bs → calls_of bs ≡ []
 cut_calls bs h = cut_by_calls (length bs) bs h
@@ -135,9 +135,6 @@ store_one whole go n bs at = cond (eqb (get_or bs 0 0) 16) (numbered (take at wh
 
 abbrev pub Stores : List ℕ → List ℕ → ℕ → Type 0
 Stores all = Sofar (λ n bs at. store_then n all bs at) bad bad (store_one all) (λ _ _ _. refl) (λ _ _. refl) all 0
-
-pub store_start : (all : List ℕ) → Stores all all 0
-store_start all = start (λ n bs at. store_then n all bs at) bad bad (store_one all) (λ _ _ _. refl) (λ _ _. refl) all 0
 
 pub store_ends : (all rest : List ℕ) (place : ℕ) → Stores all rest place → length rest ≡ 0 → bad place ≡ store_then (length all) all all 0
 store_ends all rest place s e = ends (λ n bs at. store_then n all bs at) bad bad (store_one all) (λ _ _ _. refl) (λ _ _. refl) all 0 rest place s e
@@ -150,9 +147,9 @@ store_last all rest body tail place tag s f is =
     ap (λ (x : List ℕ). numbered (take place all) x tail place) f.holds
     ∙ ap (λ (x : List ℕ). numbered (take place all) (body_of rest) x place) f.goes
     ∙ last (λ n bs at. store_then n all bs at) bad bad (store_one all) (λ _ _ _. refl) (λ _ _. refl) all 0 rest place _ s f.within
-    (λ m. ap (λ (b : Bool). cond b (numbered (take place all) (body_of rest) (behind_field rest) place) (store_then m all (behind_field rest) (place + (3 + long rest)))) (eq-eqb (get_or rest 0 0) 16 (sym f.tagged ∙ is)))
+    (λ m. rw (eq-eqb (get_or rest 0 0) 16 (sym f.tagged ∙ is)))
 
 pub store_more : (all rest body tail : List ℕ) (place tag : ℕ) → Stores all rest place → Field rest tag body tail → (tag ≡ 16 → ⊥) → Stores all tail (place + (3 + length body))
 store_more all rest body tail place tag s f nay =
     more (λ n bs at. store_then n all bs at) bad bad (store_one all) (λ _ _ _. refl) (λ _ _. refl) all 0 rest body tail place tag s f
-    (λ m. ap (λ (b : Bool). cond b (numbered (take place all) (body_of rest) (behind_field rest) place) (store_then m all (behind_field rest) (place + (3 + long rest)))) (ne_eqb (get_or rest 0 0) 16 (λ e. nay (f.tagged ∙ e))))
+    (λ m. rw (ne_eqb (get_or rest 0 0) 16 (λ e. nay (f.tagged ∙ e))))

@@ -1,5 +1,5 @@
 -- What an input holds: a store, a negotiator and calls; or the place of the first field that misfits.
-use Rattle.std.specs.Prelude.{ℕ, zero, suc, ◌+◌, Bool, cond, List, [], ◌∷◌, length, take, drop, is_some, Some, None, Option, ◌==◌, nat_lt, slice_index}
+use Rattle.std.specs.Prelude.{ℕ, zero, suc, ◌+◌, Bool, cond, List, [], ◌∷◌, length, take, drop, is_some, Some, None, Option, Ok, Err, Result, ◌==◌, nat_lt, slice_index}
 use Rattle.source.specs.declared.ObjectId.{ObjectId}
 use Rattle.book.specs.declared.types.Remark.TheVariants as remark
 use Rattle.fields.specs.Fields.{long, body_of}
@@ -7,8 +7,10 @@ use Rattle.model.specs.declared.Algorithm.{Algorithm}
 use Rattle.model.specs.declared.Algorithm.TheVariants.{Noop, Consecutive, Skipping}
 use Rattle.model.specs.declared.Call.{Call}
 use Rattle.model.specs.declared.Call.TheVariants.{KnownCommon, AddTip, NextHave, InCommonWithRemote, Note}
-use Rattle.input.specs.declared.Input.{Input}
-use Rattle.input.specs.declared.Input.TheVariants.{Bad, Walk}
+use Rattle.input.specs.declared.Misfit.{Misfit}
+use Rattle.input.specs.declared.Tag.{Tag}
+use Rattle.input.specs.declared.Tag.TheVariants as tag
+use Rattle.input.specs.declared.Walk.{Walk}
 
 -- the first field runs past the end
 abbrev pub pastb : List ℕ → Bool
@@ -27,6 +29,16 @@ tag_of (AddTip i) = 18
 tag_of NextHave = 19
 tag_of (InCommonWithRemote i) = 20
 tag_of (Note i r) = 21
+
+-- what a field with a tag holds
+abbrev pub tagged : ℕ → Option Tag
+tagged n =
+    cond (n == 16) (Some tag.Negotiator)
+    (cond (n == 17) (Some tag.KnownCommon)
+    (cond (n == 18) (Some tag.Tip)
+    (cond (n == 19) (Some tag.Next)
+    (cond (n == 20) (Some tag.Acknowledgement)
+    (cond (n == 21) (Some tag.Complete) None)))))
 
 -- the call that a tag and a body make: a next have is empty, any other holds an id of twenty bytes
 abbrev pub call_of : ℕ → List ℕ → Option Call
@@ -53,6 +65,11 @@ misfit_from (suc n) bs at =
     (cond (pastb bs) (Some at)
     (cond (is_some (call_of (slice_index bs 0) (body_of bs))) (misfit_from n (behind_field bs) (at + (3 + long bs))) (Some at)))
 
+-- a misfit at a place, if there is one
+abbrev pub refused : Option ℕ → Result (Unit {0}) Misfit
+refused None = Ok tt
+refused (Some p) = Err (record { place = p })
+
 abbrev pub on_call : Option Call → List Call → List Call
 on_call None more = []
 on_call (Some c) more = c ∷ more
@@ -70,9 +87,9 @@ pub data Parsed : Type 0 where
   bad : ℕ → Parsed
   walk : List ℕ → Algorithm → List ℕ → Parsed
 
-abbrev pub heard : Input → Parsed
-heard (Bad p) = bad p
-heard (Walk s n c) = walk s.now n c.now
+abbrev pub heard : Result Walk Misfit → Parsed
+heard (Err m) = bad m.place
+heard (Ok w) = walk w.store.now w.algorithm w.calls.now
 
 abbrev pub unless : Option ℕ → Parsed → Parsed
 unless None w = w

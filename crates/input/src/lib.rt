@@ -1,11 +1,12 @@
 // What a recorded walk holds: a store, a negotiator and calls, one field after another.
 #![tactic(auto)]
 
-ghost use Rattle.std.specs.Prelude.{◌≡◌, ℕ, ◌+◌, ◌-◌, ◌*◌, ◌^◌, ◌<◌, ◌≤◌, [], ◌∷◌, length, IfOk, MatchOption};
-ghost use Rattle.input.specs.Inputs.{tag_of, algorithm_of, call_of, misfit_from, calls_of, numbered, parsed, parsed_within, heard};
+ghost use Rattle.std.specs.Prelude.{◌≡◌, ℕ, ◌+◌, length, IfOk, MatchResult, Some, None};
+ghost use Rattle.input.specs.Inputs.{tag_of, tagged, algorithm_of, call_of, misfit_from, refused, calls_of, numbered, parsed, parsed_within, heard};
 
 use book::types::Remark;
-use fields::field;
+use fields::tail::Tail;
+use fields::{Field, Fields};
 use model::{Algorithm, Call};
 use source::ObjectId;
 use std::alloc::{AllocError, Global};
@@ -13,71 +14,92 @@ use std::alloc::{AllocError, Global};
 // The most bytes of an input.
 const MOST_BYTES: usize = 65_536;
 
-// The tags of the fields: the negotiator's number, and the calls.
-const NEGOTIATOR: u8 = 16;
+// What a field holds, by its tag: which negotiator, or a call.
+#[derive(Clone, Copy, Debug, PartialEq, Eq)]
+enum Tag {
+    Negotiator = 16,
+    KnownCommon = 17,
+    Tip = 18,
+    Next = 19,
+    Acknowledgement = 20,
+    Complete = 21,
+}
 
-const KNOWN_COMMON: u8 = 17;
+// A number that is no tag.
+#[derive(Clone, Copy, Debug)]
+struct UnknownTag;
 
-const TIP: u8 = 18;
+impl TryFrom<u8> for Tag {
+    type Error = UnknownTag;
 
-const NEXT: u8 = 19;
+    ghost try_from_gives = { λ number res. MatchResult res (λ tag. tagged number ≡ Some tag) (λ _. tagged number ≡ None) };
 
-const ACKNOWLEDGEMENT: u8 = 20;
+    fn try_from(number: u8) -> Result<Tag, UnknownTag> {
+        match number {
+            16 => Ok(Tag::Negotiator),
+            17 => Ok(Tag::KnownCommon),
+            18 => Ok(Tag::Tip),
+            19 => Ok(Tag::Next),
+            20 => Ok(Tag::Acknowledgement),
+            21 => Ok(Tag::Complete),
+            _ => Err(UnknownTag),
+        }
+    }
+}
 
-const COMPLETE: u8 = 21;
-
-// What an input holds.
+// An input taken apart: the store, the negotiator, and the fields of the calls.
 #[derive(Clone, Copy)]
-pub enum Input<'a> {
-    // The place of the first field that misfits.
-    Bad(usize),
-    // The store, the negotiator, and the fields of the calls.
-    Walk(&'a [u8], Algorithm, &'a [u8]),
+pub struct Walk<'a> {
+    pub store: &'a [u8],
+    pub algorithm: Algorithm,
+    pub calls: &'a [u8],
+}
+
+// The place of the first field that misfits: an error of its own, since no cause is told, and no commit's line is meant.
+#[derive(Clone, Copy, Debug, PartialEq, Eq)]
+pub struct Misfit {
+    pub place: usize,
+}
+
+impl From<fields::Misfit> for Misfit {
+    ghost from_gives = { λ m r. r ≡ record { place = m.place } };
+
+    fn from(misfit: fields::Misfit) -> Misfit {
+        Misfit {
+            place: misfit.place,
+        }
+    }
 }
 
 // The tag of a call.
 pub fn tag_of(call: Call) -> u8
     ensures { result ≡ tag_of call }
 {
-    match call {
-        Call::KnownCommon(_) => KNOWN_COMMON,
-        Call::AddTip(_) => TIP,
-        Call::NextHave => NEXT,
-        Call::InCommonWithRemote(_) => ACKNOWLEDGEMENT,
-        Call::Note(_, _) => COMPLETE,
-    }
+    let tag = match call {
+        Call::KnownCommon(_) => Tag::KnownCommon,
+        Call::AddTip(_) => Tag::Tip,
+        Call::NextHave => Tag::Next,
+        Call::InCommonWithRemote(_) => Tag::Acknowledgement,
+        Call::Note(_, _) => Tag::Complete,
+    };
+    tag as u8
 }
 
-// The id that twenty bytes are.
-fn id(body: &[u8]) -> ObjectId
-    requires { length body.now ≡ 20 }
-    ensures { result.bytes ≡ body.now }
+// The call that a field holds.
+fn call_of(field: Field<'_>) -> Option<Call>
+    ensures { result ≡ call_of field.entry.tag field.entry.body.now }
 {
-    let mut bytes = [0u8; 20];
-    bytes.copy_from_slice(body);
-    ObjectId { bytes }
-}
-
-// The call that a tag and a body make.
-fn call_of(tag: u8, body: &[u8]) -> Option<Call>
-    ensures { result ≡ call_of tag body.now }
-{
-    if tag == NEXT {
-        return if body.is_empty() {
-            Some(Call::NextHave)
-        } else {
-            None
-        };
+    let tag = Tag::try_from(field.tag).ok()?;
+    if tag == Tag::Next {
+        return field.body.is_empty().then_some(Call::NextHave);
     }
-    if body.len() != 20 {
-        return None;
-    }
+    let id = ObjectId::try_from(field.body).ok()?;
     match tag {
-        KNOWN_COMMON => Some(Call::KnownCommon(id(body))),
-        TIP => Some(Call::AddTip(id(body))),
-        ACKNOWLEDGEMENT => Some(Call::InCommonWithRemote(id(body))),
-        COMPLETE => Some(Call::Note(id(body), Remark::Complete)),
-        _ => None,
+        Tag::KnownCommon => Some(Call::KnownCommon(id)),
+        Tag::Tip => Some(Call::AddTip(id)),
+        Tag::Acknowledgement => Some(Call::InCommonWithRemote(id)),
+        Tag::Complete => Some(Call::Note(id, Remark::Complete)),
+        Tag::Negotiator | Tag::Next => None,
     }
 }
 
@@ -86,94 +108,63 @@ fn algorithm_of(body: &[u8]) -> Option<Algorithm>
     ensures { result ≡ algorithm_of body.now }
 {
     match body {
-        [0] => Some(Algorithm::Noop),
-        [1] => Some(Algorithm::Consecutive),
-        [2] => Some(Algorithm::Skipping),
+        [number] => Algorithm::try_from(*number).ok(),
         _ => None,
     }
 }
 
-// The place of the first call that misfits.
-fn first_misfit(calls: &[u8], at: usize) -> Option<usize>
-    requires { at + length calls.now < 2 ^ 64 }
-    ensures { result ≡ misfit_from (length calls.now) calls.now at }
+// Refuses the first call that misfits.
+fn check(calls: Tail<'_>) -> Result<(), Misfit>
+    ensures { result ≡ refused (misfit_from (length calls.entry.bytes.now) calls.entry.bytes.now calls.entry.at) }
 {
-    let mut rest = calls;
-    let mut place = at;
-    loop {
-        if rest.is_empty() {
-            break None;
+    for field in Fields::of(calls) {
+        let field = field?;
+        if call_of(field).is_none() {
+            return Err(Misfit { place: field.at });
         }
-        let Some((tag, body, tail)) = field(rest) else {
-            break Some(place);
-        };
-        if call_of(tag, body).is_none() {
-            break Some(place);
-        }
-        place += 3 + body.len();
-        rest = tail;
     }
+    Ok(())
 }
 
-// The walk that a negotiator's body and calls make, the body's field at `at`.
-fn walk<'a>(store: &'a [u8], body: &[u8], calls: &'a [u8], at: usize) -> Input<'a>
-    requires { at + 4 + length calls.now < 2 ^ 64 }
-    ensures { heard result ≡ numbered store.now body.now calls.now at }
+// The walk behind a store, from the negotiator's field on.
+fn walk_from<'a>(store: &'a [u8], negotiator: Field<'a>) -> Result<Walk<'a>, Misfit>
+    requires { negotiator.rest.at ≡ negotiator.at + (3 + length negotiator.body.now) }
+    ensures { heard result ≡ numbered store.now negotiator.entry.body.now negotiator.entry.rest.bytes.now negotiator.entry.at }
 {
-    let Some(algorithm) = algorithm_of(body) else {
-        return Input::Bad(at);
+    let Some(algorithm) = algorithm_of(negotiator.body) else {
+        return Err(Misfit {
+            place: negotiator.at,
+        });
     };
-    match first_misfit(calls, at + 4) {
-        Some(place) => Input::Bad(place),
-        None => Input::Walk(store, algorithm, calls),
-    }
+    check(negotiator.rest)?;
+    Ok(Walk {
+        store,
+        algorithm,
+        calls: negotiator.rest.bytes,
+    })
 }
 
 // An input taken apart.
-pub fn read<'a>(bytes: &'a [u8]) -> Input<'a>
+pub fn read<'a>(bytes: &'a [u8]) -> Result<Walk<'a>, Misfit>
     ensures { heard result ≡ parsed bytes.now }
 {
     read_within(bytes, MOST_BYTES)
 }
 
 // The same of an input that may have `most` bytes.
-pub fn read_within<'a>(bytes: &'a [u8], most: usize) -> Input<'a>
+pub fn read_within<'a>(bytes: &'a [u8], most: usize) -> Result<Walk<'a>, Misfit>
     ensures { heard result ≡ parsed_within most bytes.now }
 {
     if bytes.len() > most {
-        return Input::Bad(most);
+        return Err(Misfit { place: most });
     }
-    let mut rest = bytes;
-    let mut place = 0;
-    loop {
-        if rest.is_empty() {
-            break Input::Bad(place);
+    for field in Fields::of(Tail::of(bytes, 0)) {
+        let field = field?;
+        if field.tag == Tag::Negotiator as u8 {
+            return walk_from(&bytes[..field.at], field);
         }
-        let Some((tag, body, tail)) = field(rest) else {
-            break Input::Bad(place);
-        };
-        if tag == NEGOTIATOR {
-            break walk(&bytes[0..place], body, tail, place);
-        }
-        place += 3 + body.len();
-        rest = tail;
     }
-}
-
-// The first call, and what follows it; none where no call is left.
-fn next_call<'a>(calls: &'a [u8]) -> Option<(Call, &'a [u8])>
-    ensures { MatchOption result (calls_of calls.now ≡ []) (λ x. (calls_of calls.now ≡ x.0 ∷ calls_of x.1.now) × (length x.1.now < length calls.now)) }
-{
-    if calls.is_empty() {
-        return None;
-    }
-    match field(calls) {
-        Some((tag, body, tail)) => match call_of(tag, body) {
-            Some(call) => Some((call, tail)),
-            None => None,
-        },
-        None => None,
-    }
+    Err(Misfit { place: bytes.len() })
 }
 
 // The calls that the fields hold, up to the first that misfits.
@@ -181,10 +172,32 @@ pub fn calls(heap: Global, fields: &[u8]) -> Result<Vec<Call>, AllocError>
     ensures { IfOk result (λ v. v.items ≡ calls_of fields.now) }
 {
     let mut calls = Vec::new(heap);
-    let mut rest = fields;
-    while let Some((call, tail)) = next_call(rest) {
+    for field in Fields::of(Tail::of(fields, 0)) {
+        let Ok(field) = field else {
+            break;
+        };
+        let Some(call) = call_of(field) else {
+            break;
+        };
         calls.push(call)?;
-        rest = tail;
     }
     Ok(calls)
+}
+
+#[cfg(test)]
+mod tests {
+    use super::*;
+    use std::test::Fail;
+
+    #[test]
+    fn a_walk_is_taken_apart(rt: HostRuntime) -> Result<(), Fail> {
+        let walk = read(b"\x01\x00\x00\x10\x00\x01\x01\x13\x00\x00")
+            .ok()
+            .ok_or("a walk")?;
+        assert_eq!(rt; walk.store, b"\x01\x00\x00".as_slice());
+        assert_eq!(rt; walk.algorithm, Algorithm::Consecutive);
+        assert_eq!(rt; calls(rt.alloc(), walk.calls)?.len(), 1);
+        assert_eq!(rt; read(b"\x10\x00\x01\x03").err(), Some(Misfit { place: 0 }));
+        Ok(())
+    }
 }

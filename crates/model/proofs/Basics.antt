@@ -1,10 +1,11 @@
 -- Lists of rows and of row numbers: find, occ, place.
-use Rattle.std.proofs.Common.{◌≡◌, ℕ, zero, suc, ◌<◌, Bool, true, false, cond, eqb, ◌≢◌, ◌⊎◌, List, [], ◌∷◌, length, get_or, sym, refl, ap, ◌∙◌, subst, inl, inr, ⊎_elim, le_of_suc-le-suc, not-suc-le-zero, arith}
+use Rattle.std.proofs.Common.{◌≡◌, ℕ, zero, suc, ◌<◌, Bool, true, false, cond, ◌≢◌, ◌⊎◌, List, [], ◌∷◌, length, get_or, sym, refl, ap, ◌∙◌, subst, inl, inr, ⊎_elim, le_of_suc-le-suc, not-suc-le-zero, arith}
 use mathlib.Core.Option.{Option, none, some, some-injective, none-ne-some, some-ne-none}
-use Rattle.std.proofs.lemmas.Bool.{eqb-true, eq-eqb, ne_eqb, both_ways, and_parts, false≢true}
+use Rattle.std.proofs.lemmas.Bool.{eq-eqb, ne_eqb, both_ways}
 use lib.Signed.{lt_z}
 use Rattle.source.specs.declared.ObjectId.{ObjectId}
 use Rattle.source.specs.Ids.{is_same_id}
+use Rattle.book.proofs.Chains.{same_is}
 use Rattle.queue.specs.declared.entry.Entry.{Entry}
 use Rattle.queue.specs.Waiting.{enter}
 use Rattle.model.specs.Book.{Waits, Row, no_row, find, bump}
@@ -52,15 +53,6 @@ in_enter x e (j ∷ js) h = go (lt_z j.date x.date) (in_enter x e js) h
     go false ih (inr i) = ⊎_elim inl (λ i'. inr (inr i')) (ih i)
 
 -- ids
-pub same_id_true : (a b : ObjectId) → is_same_id a b ≡ true → a ≡ b
-same_id_true a b h = λ k. record { bytes = go a.bytes b.bytes h k }
-  where
-    go : (x y : List ℕ) → bytes_eq x y ≡ true → x ≡ y
-    go [] [] h = refl
-    go [] (y ∷ ys) h = absurd (false≢true h)
-    go (x ∷ xs) [] h = absurd (false≢true h)
-    go (x ∷ xs) (y ∷ ys) h = let p = and_parts (eqb x y) (bytes_eq xs ys) h in λ k. eqb-true x y p.0 k ∷ go xs ys p.1 k
-
 pub same_id_refl : (a : ObjectId) → is_same_id a a ≡ true
 same_id_refl a = go a.bytes
   where
@@ -78,7 +70,7 @@ find_some i (r ∷ rs) k e = go (is_same_id r.id i) refl (find i rs) refl (find_
   where
     go : (b : Bool) → is_same_id r.id i ≡ b → (o : Option ℕ) → find i rs ≡ o → ((j : ℕ) → find i rs ≡ some j → (j < length rs) × ((get_or rs j no_row).id ≡ i))
         → (j : ℕ) → cond b (some 0) (bump o) ≡ some j → (j < length (r ∷ rs)) × ((get_or (r ∷ rs) j no_row).id ≡ i)
-    go true eb o eo ih zero e' = (omega arith, same_id_true r.id i eb)
+    go true eb o eo ih zero e' = (omega arith, same_is r.id i eb)
     go true eb o eo ih (suc j) e' = absurd (let z : 0 ≡ suc j = some-injective 0 (suc j) e' in omega arith)
     go false eb none eo ih j e' = absurd (none-ne-some j e')
     go false eb (some m) eo ih zero e' = absurd (let z : suc m ≡ 0 = some-injective (suc m) 0 e' in omega arith)

@@ -1,12 +1,12 @@
 -- What the calls promise of pasts.
-use Rattle.std.proofs.Common.{◌≡◌, ℕ, ◌<◌, ◌≤◌, false, ◌∷◌, get_or, Some, None, Ok, Err, Result, sym, ap, ◌∙◌, subst, inl, inr, arith}
+use Rattle.std.proofs.Common.{◌≡◌, ℕ, ◌≤◌, false, ◌∷◌, Some, None, Ok, Err, Result, sym, ◌∙◌, subst, inl, inr, arith}
 use Rattle.std.proofs.lemmas.Bool.{both_ways}
 use Rattle.model.proofs.Complete.{ran_once}
 use Rattle.source.specs.declared.ObjectId.{ObjectId}
 use Rattle.book.specs.declared.types.Denial.{Denial}
-use Rattle.model.specs.Book.{Waits, SEEN, COMMON_REF_AND_SEEN, Walk, made, Source}
+use Rattle.model.specs.Book.{SEEN, COMMON_REF_AND_SEEN, Walk, made, Source}
 use Rattle.model.specs.Consecutive as steps
-use Rattle.model.specs.Steps.{ok, sees, noted, remarked, Noted}
+use Rattle.model.specs.Steps.{ok, sees, noted, Noted}
 use Rattle.model.specs.Consecutive.{Push, Mark, Ran}
 use Rattle.model.specs.declared.Call.{Call}
 use Rattle.model.specs.declared.Call.TheVariants.{KnownCommon, AddTip, Note}
@@ -23,13 +23,9 @@ use Rattle.model.specs.Parts.{ended, dones}
 use Rattle.model.proofs.Moves.{called_past}
 use Rattle.model.proofs.Good.{begun_good}
 use Rattle.model.proofs.Ops.{noted_good}
-use Rattle.model.proofs.Looks.{Looks, flag_view}
+use Rattle.model.proofs.Looks.{Looks}
 use Rattle.model.proofs.Fits.{lookup_went, fit_went}
-use Rattle.model.proofs.Masks.{or_note}
-use Rattle.book.specs.Bits.{bit_of}
-use Rattle.model.specs.View.{walk_of}
 use Rattle.book.specs.declared.types.Remark.{Remark}
-use Rattle.book.specs.Model.{Model, flagged, no_entry}
 
 ran_only : (n : Algorithm) (src : Source) (s : Walk) (c : Call) (a b : Reply) (t u : Walk) → does n src s c a t → does n src s c b u → (a ≡ b) × (t ≡ u)
 ran_only algorithm.Noop = noop_once
@@ -73,9 +69,6 @@ note_none src b i s t l = subst (λ (x : Walk). Ran src s (Note i b) Done x) (sy
 
 pub note_some : (src : Source) (b : Remark) (i : ObjectId) (s t u : Walk) (k : ℕ) → Looks src s i t (Ok (Some k)) → u ≡ noted b t k → Ran src s (Note i b) Done u
 note_some src b i s t u k l e = subst (λ (x : Walk). Ran src s (Note i b) Done x) (sym e) (steps.Ran.notes (Noted.set_at l))
-
-pub note_is : (m m' : Model) (q : Waits) (c k mask : ℕ) (b : Remark) → mask ≡ bit_of b → m' ≡ flagged m k mask → (get_or m.entries k no_entry).flags < 256 → walk_of m' q c ≡ noted b (walk_of m q c) k
-note_is m m' q c k mask b e after small = flag_view m m' q q c c k (bit_of b) (remarked b) (after ∙ ap (λ (x : ℕ). flagged m k x) e) (or_note b _)
 
 pub note_fit : (src : Source) (b : Remark) (i : ObjectId) (s t : Walk) (k n p m : ℕ) → Looks src s i t (Ok (Some k)) → Fit s n p m → Fit (noted b t k) n p m
 note_fit src b i s t k n p m l F =

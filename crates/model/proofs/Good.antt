@@ -44,6 +44,9 @@ put_other s j k r q c ne = get_or-set_other s.rows k j r no_row ne
 pub row_same : (s : Walk) (k : ℕ) (f : Flags) (q : Waits) (c : ℕ) → k < length s.rows → row (change s k f q c) k ≡ reflag (row s k) f
 row_same s k f q c h = put_same s k (reflag (row s k) f) q c h
 
+pub date_kept : (s : Walk) (k : ℕ) (f : Flags) (q : Waits) (c : ℕ) → k < length s.rows → (row (change s k f q c) k).date ≡ (row s k).date
+date_kept s k f q c l = ap (λ (r : Row). r.date) (row_same s k f q c l)
+
 -- what holds of every row and its number after a change at k, if it holds of the changed one, and of the others as they were
 pub each_put : (s : Walk) (k : ℕ) (r : Row) (q : Waits) (c : ℕ) (P : ℕ → Row → Type 0) → k < length s.rows
     → P k r → ((j : ℕ) → j ≢ k → P j (row s j)) → (j : ℕ) → P j (row (put s k r q c) j)

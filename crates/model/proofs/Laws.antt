@@ -41,7 +41,7 @@ any src = record { src = src; Cov = λ i. Unit {0}; Ref = λ i. Unit {0}; Ans = 
 good_any : (src : Source) (h : List Event) (s : Walk) → Good (world src h) s → Good (any src) s
 good_any src h s G = record { tally = G.tally; pop = λ k x. tt; fine = G.fine; cov = λ k x. tt; ref = λ k x. tt; ans = λ k x. inr tt; from = G.from; uniq = G.uniq; room = G.room; short = G.short }
 
-covered_more : (src : Source) (e : Event) (h : List Event) (i : ObjectId) → Covered src h i → Covered src (e ∷ h) i
+pub covered_more : (src : Source) (e : Event) (h : List Event) (i : ObjectId) → Covered src h i → Covered src (e ∷ h) i
 covered_more src e h i (inl x) = inl (x.0, inr x.1, x.2)
 covered_more src e h i (inr x) = inr (x.0, inr x.1, x.2)
 

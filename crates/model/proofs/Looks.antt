@@ -1,10 +1,10 @@
 -- The book's equations as steps of the model.
-use Rattle.std.proofs.Common.{◌≡◌, ℕ, zero, suc, ◌+◌, ◌-◌, ◌<◌, ◌≤◌, Bool, true, false, cond, ltb, List, [], ◌∷◌, map, length, get_or, set, ℤ, Some, None, Ok, Err, Option, Result, sym, refl, ap, ◌∙◌, subst, arith}
+use Rattle.std.proofs.Common.{◌≡◌, ℕ, zero, suc, ◌+◌, ◌<◌, ◌≤◌, Bool, true, false, cond, ltb, List, [], ◌∷◌, map, length, get_or, set, ℤ, Some, None, Ok, Err, Option, Result, sym, refl, ap, ◌∙◌, subst, arith}
 use mathlib.Core.Option as mo
 use mathlib.Core.Option.{none, some}
 use lib.Bits.{bit_or}
 use Rattle.std.proofs.lemmas.List.{length-map, map_push}
-use Rattle.std.proofs.lemmas.Bool.{cond-true, cond-false, ltb-true, ltb-false}
+use Rattle.std.proofs.lemmas.Bool.{ltb-true, ltb-false}
 use Rattle.source.specs.declared.ObjectId.{ObjectId}
 use Rattle.book.specs.declared.types.Denial.{Denial}
 use Rattle.book.specs.declared.types.Denial.TheVariants as denial
@@ -14,10 +14,8 @@ use Rattle.source.specs.Meaning.{Meaning, absent, failing, commit}
 use Rattle.book.specs.Rows
 use Rattle.book.specs.Model.{Model, looked_up, query, fresh, raised, flagged, no_entry}
 use Rattle.book.specs.Model as hm
-use Rattle.queue.specs.Waiting.{enter}
-use Rattle.model.specs.Book.{Waits, Flags, COMMON, POPPED, join, meets, Row, no_row, reflag, Walk, flags_at, change, add_row, find, bump, Source}
-use Rattle.model.specs.Steps.{found, Lookup, held, lacks, fails, full, short, adds, taken}
-use Rattle.model.specs.Consecutive.{entered, waits, commoned}
+use Rattle.model.specs.Book.{Waits, Flags, join, meets, Row, no_row, reflag, Walk, flags_at, change, add_row, find, bump, Source}
+use Rattle.model.specs.Steps.{found, Lookup, held, lacks, fails, full, short, adds}
 use Rattle.book.specs.Bits.{has}
 use Rattle.model.specs.Parts
 use Rattle.model.specs.View.{unpack, view_row, walk_of}
@@ -119,37 +117,3 @@ flag_view m m' q q' c c' k mask M e l = ap (λ (x : Model). walk_of x q' c') e
 
 pub flags_view : (m : Model) (q : Waits) (c k : ℕ) → flags_at (walk_of m q c) k ≡ unpack (get_or m.entries k no_entry).flags
 flags_view m q c k = ap (λ (r : Row). r.flags) (view_at m.entries k)
-
--- a push at a row, where it had a bit of the mask and where it had none
-pub admit_no : (m m' : Model) (q : Waits) (c k mask : ℕ) (M : Flags) → m' ≡ flagged m k mask → Law mask M (get_or m.entries k no_entry).flags → has (get_or m.entries k no_entry).flags mask ≡ true
-    → walk_of m' q c ≡ entered M (walk_of m q c) k
-admit_no m m' q c k mask M e l h =
-    let t : meets M (flags_at (walk_of m q c) k) ≡ true = ap (meets M) (flags_view m q c k) ∙ sym l.1 ∙ h in
-    flag_view m m' q q c c k mask M e l ∙ sym (cond-true _ _ _ t)
-
-pub admit_yes : (m m' : Model) (q q' : Waits) (c c' k mask : ℕ) (M : Flags) → m' ≡ flagged m k mask → Law mask M (get_or m.entries k no_entry).flags → has (get_or m.entries k no_entry).flags mask ≡ false
-    → q' ≡ enter (record { date = (get_or m.entries k no_entry).date; value = k }) q
-    → c' ≡ c + cond (unpack (bit_or (get_or m.entries k no_entry).flags mask)).common 0 1
-    → walk_of m' q' c' ≡ entered M (walk_of m q c) k
-admit_yes m m' q q' c c' k mask M e l h eq ec =
-    let t : meets M (flags_at (walk_of m q c) k) ≡ false = ap (meets M) (flags_view m q c k) ∙ sym l.1 ∙ h in
-    let f : unpack (bit_or (get_or m.entries k no_entry).flags mask) ≡ join M (flags_at (walk_of m q c) k) = l.0 ∙ ap (join M) (sym (flags_view m q c k)) in
-    flag_view m m' q q' c c' k mask M e l
-    ∙ (λ j. change (walk_of m q c) k (join M (flags_at (walk_of m q c) k))
-    ((eq ∙ ap (λ (d : ℤ). enter (record { date = d; value = k }) q) (sym (ap (λ (r : Row). r.date) (view_at m.entries k)))) j)
-    ((ec ∙ ap (λ (g : Flags). c + cond g.common 0 1) f) j))
-    ∙ sym (cond-false _ _ _ t)
-
--- COMMON
-pub common_view : (m m' : Model) (q : Waits) (c c' k : ℕ) → m' ≡ flagged m k 4 → Law 4 COMMON (get_or m.entries k no_entry).flags
-    → c' ≡ c - cond (waits (unpack (get_or m.entries k no_entry).flags)) 1 0 → walk_of m' q c' ≡ commoned (walk_of m q c) k
-common_view m m' q c c' k e l ec =
-    flag_view m m' q q c c' k 4 COMMON e l
-    ∙ ap (λ (n : ℕ). change (walk_of m q c) k (join COMMON (flags_at (walk_of m q c) k)) q n) (ec ∙ ap (λ (f : Flags). c - cond (waits f) 1 0) (sym (flags_view m q c k)))
-
--- POPPED
-pub pop_view : (m m' : Model) (q q' : Waits) (c c' k : ℕ) → m' ≡ flagged m k 16 → Law 16 POPPED (get_or m.entries k no_entry).flags
-    → c' ≡ c - cond (unpack (get_or m.entries k no_entry).flags).common 0 1 → walk_of m' q' c' ≡ taken (walk_of m q c) k q'
-pop_view m m' q q' c c' k e l ec =
-    flag_view m m' q q' c c' k 16 POPPED e l
-    ∙ ap (λ (n : ℕ). change (walk_of m q c) k (join POPPED (flags_at (walk_of m q c) k)) q' n) (ec ∙ ap (λ (f : Flags). c - cond f.common 0 1) (sym (flags_view m q c k)))

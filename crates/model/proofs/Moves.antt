@@ -6,8 +6,7 @@ use Rattle.source.specs.declared.ObjectId.{ObjectId}
 use Rattle.book.specs.declared.types.Denial.{Denial}
 use Rattle.book.specs.declared.types.Head.{Head}
 use Rattle.book.specs.Model.{Model, no_entry, summed}
-use Rattle.queue.specs.declared.entry.Entry.{Entry}
-use Rattle.queue.specs.Waiting.{enter, head, tail}
+use Rattle.queue.specs.Waiting.{enter}
 use Rattle.model.specs.declared.Step.{Step}
 use Rattle.model.specs.declared.Turn.{Turn}
 use Rattle.model.specs.Past
@@ -36,9 +35,6 @@ head_flags m q c k h e = flags_view m q c k ∙ ap (λ (x : Head). unpack x.flag
 
 pub head_date : (m : Model) (q : Waits) (c k : ℕ) (h : Head) → h ≡ summed (get_or m.entries k no_entry) → h.date ≡ (row (walk_of m q c) k).date
 head_date m q c k h e = ap (λ (x : Head). x.date) e ∙ sym (ap (λ (r : Row). r.date) (view_at m.entries k))
-
-pub head_parents : (m : Model) (q : Waits) (c k : ℕ) (h : Head) → h ≡ summed (get_or m.entries k no_entry) → h.parents ≡ length (row (walk_of m q c) k).parents
-head_parents m q c k h e = ap (λ (x : Head). x.parents) e ∙ sym (ap (λ (r : Row). length r.parents) (view_at m.entries k))
 
 pub push_err : (src : Source) (m : Flags) (i : ObjectId) (s t : Walk) (d : Denial) → Looks src s i t (Err d) → Push src m i s (no d t)
 push_err src m i s t d l = subst (λ (x : Walk). Push src m i s (no d x)) (sym l.1) (steps.Push.denies d l.0)
@@ -111,15 +107,6 @@ pub visit_near : (src : Source) (all : Bool) (e : Step) (q q' : Marks) (s t : Wa
     → Spread src e.generation (row s e.row).parents q s r q' t → Visited src all e q s r q' t
 visit_near src all e q q' s t (Ok x) u f h = λ date out m g. steps.Marking.near u f (h all out (m e.generation))
 visit_near src all e q q' s t (Err b) u f h = λ date g. steps.Marking.near u f (h all)
-
--- what a draw took
-pub head_some : {V : Type 0} (e : Entry V) (xs : List (Entry V)) → Some e ≡ head xs → xs ≡ e ∷ tail xs
-head_some e [] h = let z : ◌≡◌ {A = ℕ} 0 1 = cc in absurd (omega arith)
-head_some {V} e (x ∷ xs) h = let q : x ≡ e = cc in ap {B = List (Entry V)} (λ y. y ∷ xs) q
-
-pub head_none : {V : Type 0} (xs : List (Entry V)) → None ≡ head xs → xs ≡ []
-head_none [] h = refl
-head_none (x ∷ xs) h = let z : ◌≡◌ {A = ℕ} 0 1 = cc in absurd (omega arith)
 
 -- a mark
 pub mark_err : (src : Source) (itself all : Bool) (i : ObjectId) (s t : Walk) (d : Denial) → Looks src s i t (Err d) → Mark src itself all i s (no d t)

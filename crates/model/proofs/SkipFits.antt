@@ -24,7 +24,7 @@ use Rattle.model.proofs.Good.{change_ext, put_ext, ext_refl, begun_good}
 use Rattle.model.proofs.Runs.{stop_ext, drawn_ext}
 use Rattle.model.proofs.Fits.{Bounds, lookup_ext}
 use Rattle.model.proofs.Looks.{Looks}
-use Rattle.model.proofs.Low.{pending_enter, shared_opens, shared_pending, seen_bit, falls_bit, opens_rows, pending_same, relieved_ext, add_low, stop_low, enter_low, common_low, draw_low, number_low, note_low, take_low}
+use Rattle.model.proofs.Low.{pending_enter, shared_opens, shared_pending, seen_bit, falls_bit, opens_rows, pending_same, relieved_ext, add_low, stop_low, enter_low, common_low, draw_low, note_low, take_low}
 use Rattle.model.proofs.SkipRuns.{Plain, plain_seen, plain_advertised}
 
 -- the steps of the state's own world
@@ -190,9 +190,6 @@ pub numbered_ext : (s : Walk) (k o t : ℕ) → k < length s.rows → Ext s (num
 numbered_ext s k o t l = cond_both (ltb (row s k).original (new_original o t)) _ _ (λ u. Ext s u)
     (λ e. put_ext s k (renumber (row s k) (new_original o t) (new_ttl o t)) s.queue s.count l (record { id = refl; date = refl; parents = refl }) (λ h. h) (λ h. h) (λ h. h) (omega arith))
     (λ e. ext_refl s)
-
-pub numbered_fit : (s : Walk) (k o t n p m : ℕ) → SkipFit s n p m → k < length s.rows → SkipFit (numbered o t s k) n p m
-numbered_fit s k o t n p m F l = let a = number_low (λ j. absent) AllBelow ⊥ s k o t F.steady l in fit_went s (numbered o t s k) n n p m F a.0 a.1 (omega arith)
 
 -- a draw
 pub drawn_inside : (s : Walk) (n p m : ℕ) (x : Entry ℕ) (q : Waits) → SkipFit s n p m → s.queue ≡ x ∷ q → x.value < length s.rows

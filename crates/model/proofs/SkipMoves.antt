@@ -1,9 +1,9 @@
 -- The skipping code's equations as steps of the model, and what its parts give to one another.
-use Rattle.std.proofs.Common.{◌≡◌, ℕ, zero, suc, ◌+◌, ◌-◌, ◌<◌, ◌≤◌, Bool, true, false, cond, ◌||◌, ltb, List, [], ◌∷◌, ◌++◌, length, get_or, drop, set, ℤ, Some, None, Ok, Err, Result, sym, refl, ap, ◌∙◌, subst, arith}
+use Rattle.std.proofs.Common.{◌≡◌, ℕ, zero, suc, ◌+◌, ◌-◌, ◌<◌, ◌≤◌, Bool, true, false, cond, ◌||◌, List, [], ◌∷◌, ◌++◌, length, get_or, drop, set, ℤ, Some, None, Ok, Err, Result, sym, refl, ap, ◌∙◌, subst, arith}
 use mathlib.Core.Option as mo
 use mathlib.Core.Option.{none, some}
 use Rattle.std.proofs.lemmas.List.{drop_more}
-use Rattle.std.proofs.lemmas.Bool.{both_ways, cond-true, cond-false}
+use Rattle.std.proofs.lemmas.Bool.{both_ways}
 use Rattle.source.specs.declared.ObjectId.{ObjectId}
 use Rattle.source.specs.Ids.{is_same_id}
 use Rattle.source.specs.Meaning.{Meaning, absent, commit}
@@ -15,7 +15,7 @@ use Rattle.model.specs.declared.Step.{Step}
 use Rattle.model.specs.declared.Call.TheVariants.{KnownCommon, AddTip}
 use Rattle.model.specs.declared.Reply.{Reply}
 use Rattle.model.specs.declared.Reply.TheVariants.{Done, Have, Denied}
-use Rattle.model.specs.Book.{Flags, SEEN, COMMON, POPPED, ADVERTISED_AND_SEEN, join, Row, no_row, reflag, renumber, Waits, Marks, Walk, row, flags_at, put, change, recount, drawn, stop, fresh_row, find, bump, Source, place, place_mark}
+use Rattle.model.specs.Book.{Flags, SEEN, COMMON, ADVERTISED_AND_SEEN, join, Row, no_row, reflag, Waits, Marks, Walk, row, flags_at, change, recount, drawn, stop, fresh_row, find, bump, Source, place, place_mark}
 use Rattle.model.specs.Steps.{found, Lookup, held, adds, lacks, Res, ok, no, sees, sees_at, taken, noted, Noted}
 use Rattle.model.specs.Skipping as steps
 use Rattle.model.specs.Skipping.{queued, shared, falls, relieved, at_row, alone, new_original, new_ttl, numbered, pops, shares, offers, Add, AddUnseen, Spread, Mark, Hand, Next, Ran}
@@ -24,14 +24,11 @@ use Rattle.model.specs.View.{unpack}
 use Rattle.model.specs.Parts.{ended, dones}
 use Rattle.model.specs.SkipParts.{Adds, SeenIfThere, SpreadOne, SpreadAll, Visited, Carries, Pushed, Handed, Handing, offered, Took}
 use Rattle.model.proofs.Basics.{find_some, length_enter, same_id_refl}
-use Rattle.model.proofs.Good.{row_same}
+use Rattle.model.proofs.Good.{row_same, date_kept}
 use Rattle.model.proofs.Looks.{Looks}
 use Rattle.model.proofs.SkipFits.{plain_of, shared_ext, shared_up, held_share, held_gains, held_alone}
 
 -- the code's small steps put together: a push, a row that enters the marking queue with COMMON, a draw from it, skip numbers, a draw
-date_kept : (s : Walk) (k : ℕ) (f : Flags) (q : Waits) (c : ℕ) → k < length s.rows → (row (change s k f q c) k).date ≡ (row s k).date
-date_kept s k f q c l = ap (λ (r : Row). r.date) (row_same s k f q c l)
-
 pub queued_is : (s t u v : Walk) (k : ℕ) (M : Flags) → k < length s.rows → t ≡ change s k (join M (flags_at s k)) s.queue s.count → u ≡ drawn t (place t.rows k t.queue) → v ≡ recount u (u.count + 1) → v ≡ queued M s k
 queued_is s t u v k M l et eu ev =
     let J = join M (flags_at s k) in
@@ -44,18 +41,6 @@ marks_gain s t k q q' l is e = e ∙ ap {B = Marks} (λ (x : Walk). place_mark x
 
 pub relieved_is : (s t : Walk) (k n : ℕ) (f : Flags) → f ≡ flags_at s k → n ≡ falls f → t ≡ recount s (s.count - n) → t ≡ relieved s k
 relieved_is s t k n f e en is = is ∙ ap (λ (x : ℕ). recount s (s.count - x)) (en ∙ ap falls e)
-
-pub numbered_yes : (s t : Walk) (k o l o' l' : ℕ) → ltb (row s k).original (new_original o l) ≡ true → o' ≡ new_original o l → l' ≡ new_ttl o l → t ≡ put s k (renumber (row s k) o' l') s.queue s.count → t ≡ numbered o l s k
-numbered_yes s t k o l o' l' lt eo el is =
-    is ∙ ap (λ (x : ℕ). put s k (renumber (row s k) x l') s.queue s.count) eo ∙ ap (λ (x : ℕ). put s k (renumber (row s k) (new_original o l) x) s.queue s.count) el ∙ sym (cond-true _ _ _ lt)
-
-pub numbered_no : (s : Walk) (k o l : ℕ) → ltb (row s k).original (new_original o l) ≡ false → s ≡ numbered o l s k
-numbered_no s k o l lt = sym (cond-false _ _ _ lt)
-
-pub taken_is : (s t u v : Walk) (k n : ℕ) (q : Waits) (f : Flags) → f ≡ flags_at s k → t ≡ drawn s q → u ≡ change t k (join POPPED (flags_at t k)) t.queue t.count → v ≡ recount u (u.count - n) → n ≡ cond f.common 0 1 → v ≡ taken s k q
-taken_is s t u v k n q f e et eu ev en =
-    ev ∙ ap (λ (x : Walk). recount x (x.count - n)) eu ∙ ap (λ (x : Walk). recount (change x k (join POPPED (flags_at x k)) x.queue x.count) (x.count - n)) et
-    ∙ ap (λ (m : ℕ). change s k (join POPPED (flags_at s k)) q (s.count - m)) (en ∙ ap (λ (g : Flags). cond g.common 0 1) e)
 
 -- add to the queue
 pub add_err : (src : Source) (m : Flags) (i : ObjectId) (s t : Walk) (d : Denial) → Looks src s i t (Err d) → Add src m i s (no d t)

@@ -1,16 +1,17 @@
 -- The worked walks, computed.
-use Rattle.std.proofs.Common.{◌≡◌, ℕ, true, false, List, [], ◌∷◌, sym, refl, subst, inl, inr}
+use Rattle.std.proofs.Common.{◌≡◌, ℕ, true, false, List, [], ◌∷◌, map, sym, refl, subst, inl, inr}
 use mathlib.Core.Option.{Option, none, some}
 use Rattle.book.specs.declared.types.Denial.TheVariants as denial
+use Rattle.queue.specs.declared.entry.Entry.{Entry}
 use Rattle.model.specs.declared.Algorithm.{Algorithm}
 use Rattle.model.specs.declared.Algorithm.TheVariants.{Noop, Consecutive, Skipping}
 use Rattle.model.specs.declared.Event.{Event}
 use Rattle.model.specs.declared.Call.{Call}
 use Rattle.model.specs.declared.Reply.{Reply}
 use Rattle.model.specs.declared.Reply.TheVariants.{Denied}
-use Rattle.model.specs.Book.{Walk, made, Source}
+use Rattle.model.specs.Book.{Flags, Row, Walk, made, Source}
 use Rattle.model.specs.Past.{does, Called}
-use Rattle.model.specs.Walks.{Plays, Gives, WalkChain, WalkWaits, WalkLost, WalkKnown, WalkMerge, WalkFull, WalkNear, WalkNearTold, WalkLostTold, WalkDates, WalkSkips, WalkSkipTold, WalkPins, WalkEdge, WalkNoop}
+use Rattle.model.specs.Walks.{Plays, Gives, Left, at, WalkChain, WalkWaits, WalkLost, WalkKnown, WalkMerge, WalkFull, WalkNear, WalkNearTold, WalkLostTold, WalkDates, WalkSkips, WalkSkipTold, WalkPins, WalkEdge, WalkNoop}
 use Rattle.model.proofs.Eval.{Outcome}
 use Rattle.model.proofs.Eval
 use Rattle.model.proofs.SkipEval
@@ -65,71 +66,76 @@ tells_plays n src (e ∷ es) s h = go (called_of (run n src) s e.asked) refl h (
 gives : {n : Algorithm} {src : Source} {rows : ℕ} {es : List Event} {P : Walk → Type 0} → Tells (run n src) (made rows 20) es → P (left (run n src) (made rows 20) es) → Gives n src rows es P
 gives {n} {src} {rows} {es} {P} h p = record { left = left (run n src) (made rows 20) es; plays = tells_plays n src es (made rows 20) h; holds = p }
 
+-- what is left, by its four equations
+left_as : {t : Walk} {commits : List ℕ} {flags : List Flags} {waits : List ℕ} {count : ℕ} → map (λ (r : Row). r.id) t.rows ≡ map at commits → map (λ (r : Row). r.flags) t.rows ≡ flags
+    → map (λ (e : Entry ℕ). e.value) t.queue ≡ waits → t.count ≡ count → Left t commits flags waits count
+left_as i f w c = record { ids = i; flagged = f; waiting = w; counted = c }
+
 pub walk_chain : WalkChain
-walk_chain = gives (refl, (refl, (refl, (refl, (refl, tt))))) (record { ids = refl; flagged = refl; waiting = refl; counted = refl })
+walk_chain = gives (refl, (refl, (refl, (refl, (refl, tt))))) (left_as refl refl refl refl)
 
 pub walk_waits : WalkWaits
-walk_waits = gives (refl, (refl, (refl, (refl, tt)))) (record { ids = refl; flagged = refl; waiting = refl; counted = refl })
+walk_waits = gives (refl, (refl, (refl, (refl, tt)))) (left_as refl refl refl refl)
 
 pub walk_lost : WalkLost
-walk_lost = gives (refl, (refl, (refl, (refl, (refl, tt))))) (record { ids = refl; flagged = refl; waiting = refl; counted = refl })
+walk_lost = gives (refl, (refl, (refl, (refl, (refl, tt))))) (left_as refl refl refl refl)
 
 pub walk_known : WalkKnown
-walk_known = gives (refl, (refl, (refl, (refl, (refl, tt))))) (record { ids = refl; flagged = refl; waiting = refl; counted = refl })
+walk_known = gives (refl, (refl, (refl, (refl, (refl, tt))))) (left_as refl refl refl refl)
 
 pub walk_merge : WalkMerge
-walk_merge = gives (refl, (refl, (refl, (refl, (refl, (refl, tt)))))) (record { ids = refl; flagged = refl; waiting = refl; counted = refl })
+walk_merge = gives (refl, (refl, (refl, (refl, (refl, (refl, tt)))))) (left_as refl refl refl refl)
 
 pub walk_full : WalkFull
-walk_full = gives (refl, (refl, (refl, (refl, tt)))) (record { ids = refl; flagged = refl; waiting = refl; counted = refl }, refl)
+walk_full = gives (refl, (refl, (refl, (refl, tt)))) (left_as refl refl refl refl, refl)
 
 pub walk_near : WalkNear
-walk_near = gives (refl, (refl, (refl, (refl, (refl, tt))))) (record { ids = refl; flagged = refl; waiting = refl; counted = refl })
+walk_near = gives (refl, (refl, (refl, (refl, (refl, tt))))) (left_as refl refl refl refl)
 
 pub walk_near_told : WalkNearTold
 walk_near_told = (
-  gives (refl, (refl, (refl, tt))) (record { ids = refl; flagged = refl; waiting = refl; counted = refl }),
-  gives (refl, (refl, (refl, (refl, tt)))) (record { ids = refl; flagged = refl; waiting = refl; counted = refl }),
+  gives (refl, (refl, (refl, tt))) (left_as refl refl refl refl),
+  gives (refl, (refl, (refl, (refl, tt)))) (left_as refl refl refl refl),
 )
 
 pub walk_lost_told : WalkLostTold
-walk_lost_told = gives (refl, (refl, (refl, (refl, (refl, tt))))) (record { ids = refl; flagged = refl; waiting = refl; counted = refl })
+walk_lost_told = gives (refl, (refl, (refl, (refl, (refl, tt))))) (left_as refl refl refl refl)
 
 pub walk_dates : WalkDates
 walk_dates = (
-  gives (refl, (refl, (refl, (refl, (refl, tt))))) (record { ids = refl; flagged = refl; waiting = refl; counted = refl }),
-  gives (refl, (refl, (refl, (refl, (refl, tt))))) (record { ids = refl; flagged = refl; waiting = refl; counted = refl }),
+  gives (refl, (refl, (refl, (refl, (refl, tt))))) (left_as refl refl refl refl),
+  gives (refl, (refl, (refl, (refl, (refl, tt))))) (left_as refl refl refl refl),
 )
 
 pub walk_skips : WalkSkips
-walk_skips = gives (refl, (refl, (refl, (refl, (refl, (refl, tt)))))) (record { ids = refl; flagged = refl; waiting = refl; counted = refl })
+walk_skips = gives (refl, (refl, (refl, (refl, (refl, (refl, tt)))))) (left_as refl refl refl refl)
 
 pub walk_skip_told : WalkSkipTold
 walk_skip_told = (
-  gives (refl, (refl, (refl, (refl, (refl, tt))))) (record { ids = refl; flagged = refl; waiting = refl; counted = refl }),
-  gives (refl, (refl, (refl, (refl, (refl, tt))))) (record { ids = refl; flagged = refl; waiting = refl; counted = refl }),
-  gives (refl, (refl, tt)) (record { ids = refl; flagged = refl; waiting = refl; counted = refl }),
-  gives (refl, (refl, (refl, tt))) (record { ids = refl; flagged = refl; waiting = refl; counted = refl }, refl),
+  gives (refl, (refl, (refl, (refl, (refl, tt))))) (left_as refl refl refl refl),
+  gives (refl, (refl, (refl, (refl, (refl, tt))))) (left_as refl refl refl refl),
+  gives (refl, (refl, tt)) (left_as refl refl refl refl),
+  gives (refl, (refl, (refl, tt))) (left_as refl refl refl refl, refl),
 )
 
 pub walk_pins : WalkPins
 walk_pins = (
-  gives (refl, (refl, (refl, tt))) (record { ids = refl; flagged = refl; waiting = refl; counted = refl }, refl, refl),
-  gives (refl, (refl, (refl, tt))) (record { ids = refl; flagged = refl; waiting = refl; counted = refl }),
-  gives (refl, (refl, tt)) (record { ids = refl; flagged = refl; waiting = refl; counted = refl }),
-  gives (refl, (refl, (refl, (refl, (refl, tt))))) (record { ids = refl; flagged = refl; waiting = refl; counted = refl }),
-  gives (refl, (refl, (refl, (refl, (refl, tt))))) (record { ids = refl; flagged = refl; waiting = refl; counted = refl }, refl),
+  gives (refl, (refl, (refl, tt))) (left_as refl refl refl refl, refl, refl),
+  gives (refl, (refl, (refl, tt))) (left_as refl refl refl refl),
+  gives (refl, (refl, tt)) (left_as refl refl refl refl),
+  gives (refl, (refl, (refl, (refl, (refl, tt))))) (left_as refl refl refl refl),
+  gives (refl, (refl, (refl, (refl, (refl, tt))))) (left_as refl refl refl refl, refl),
 )
 
 pub walk_edge : WalkEdge
 walk_edge = (
-  gives (refl, (refl, (refl, tt))) (record { ids = refl; flagged = refl; waiting = refl; counted = refl }, refl),
-  gives (refl, (refl, (refl, tt))) (record { ids = refl; flagged = refl; waiting = refl; counted = refl }, refl),
-  gives (refl, (refl, (refl, tt))) (record { ids = refl; flagged = refl; waiting = refl; counted = refl }, refl),
+  gives (refl, (refl, (refl, tt))) (left_as refl refl refl refl, refl),
+  gives (refl, (refl, (refl, tt))) (left_as refl refl refl refl, refl),
+  gives (refl, (refl, (refl, tt))) (left_as refl refl refl refl, refl),
 )
 
 pub walk_noop : WalkNoop
 walk_noop = (
-  gives (refl, (refl, (refl, (refl, (refl, tt))))) (record { ids = refl; flagged = refl; waiting = refl; counted = refl }),
-  gives (refl, (refl, (refl, tt))) (record { ids = refl; flagged = refl; waiting = refl; counted = refl }, refl),
+  gives (refl, (refl, (refl, (refl, (refl, tt))))) (left_as refl refl refl refl),
+  gives (refl, (refl, (refl, tt))) (left_as refl refl refl refl, refl),
 )

@@ -10,3 +10,4 @@ pub mod Steady
 pub mod View
 pub mod Parts
 pub mod SkipParts
+pub mod Numbers

@@ -1,3 +1,4 @@
 pub mod Numbers
 pub mod Windows
 pub mod Runs
+pub mod Records

@@ -6,11 +6,13 @@ ghost use Rattle.walk.specs.View.{view, numbered, places, mark_places};
 use crate::Negotiator;
 use book::book::Book;
 use book::types::{Denial, Remark};
+use model::Algorithm;
 use source::{ObjectId, Source};
 use walk::state::State;
 use walk::state::making::Buffers;
 
-// Only notes touch its state.
+// Only notes touch its state. A struct of its own, as each walk has: the steps of a generic one in another crate could be
+// no methods.
 #[derive(Drop)]
 pub struct Noop {
     state: State,
@@ -18,15 +20,11 @@ pub struct Noop {
 }
 
 impl Negotiator for Noop {
-    const NUMBER: u8 = 0;
+    const ALGORITHM: Algorithm = Algorithm::Noop;
 
-    ghost algorithm = { algorithms.Noop };
+    ghost ALGORITHM = { algorithms.Noop };
 
     ghost walk = { λ s. view s.state };
-
-    fn which(&self) -> u8 {
-        Self::NUMBER
-    }
 
     fn new(buffers: Buffers) -> Noop {
         Noop {
@@ -39,23 +37,15 @@ impl Negotiator for Noop {
     }
 
     fn known_common<S: Source>(&mut self, _source: &S, _id: ObjectId) -> Result<(), Denial> {
-        if self.state.is_stopped() {
-            return Err(Denial::Stopped);
-        }
-        Ok(())
+        self.state.going()
     }
 
     fn add_tip<S: Source>(&mut self, _source: &S, _id: ObjectId) -> Result<(), Denial> {
-        if self.state.is_stopped() {
-            return Err(Denial::Stopped);
-        }
-        Ok(())
+        self.state.going()
     }
 
     fn next_have<S: Source>(&mut self, _source: &S) -> Result<Option<usize>, Denial> {
-        if self.state.is_stopped() {
-            return Err(Denial::Stopped);
-        }
+        self.state.going()?;
         Ok(None)
     }
 
@@ -64,9 +54,7 @@ impl Negotiator for Noop {
         _source: &S,
         _id: ObjectId,
     ) -> Result<bool, Denial> {
-        if self.state.is_stopped() {
-            return Err(Denial::Stopped);
-        }
+        self.state.going()?;
         Ok(false)
     }
 

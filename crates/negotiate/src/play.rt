@@ -1,56 +1,27 @@
 // Calls played in turn, under any negotiator and over any source.
 ghost use Rattle.std.specs.Prelude.{◌≡◌, ℕ, min, length, take, drop};
 ghost use Rattle.model.specs.Laws.{Answers};
-ghost use Rattle.model.specs.Parts.{haves, dones, tolds};
 ghost use Rattle.negotiate.specs.Runs.{Played};
 
 use crate::Negotiator;
-use book::types::Denial;
 use model::{Call, Reply};
 use source::Source;
 
-fn done(res: Result<(), Denial>) -> Reply
-    ensures { result ≡ dones res }
-{
-    match res {
-        Ok(()) => Reply::Done,
-        Err(denial) => Reply::Denied(denial),
-    }
-}
-
-fn have(res: Result<Option<usize>, Denial>) -> Reply
-    ensures { result ≡ haves res }
-{
-    match res {
-        Ok(Some(row)) => Reply::Have(row),
-        Ok(None) => Reply::NoneLeft,
-        Err(denial) => Reply::Denied(denial),
-    }
-}
-
-fn told(res: Result<bool, Denial>) -> Reply
-    ensures { result ≡ tolds res }
-{
-    match res {
-        Ok(known) => Reply::Told(known),
-        Err(denial) => Reply::Denied(denial),
-    }
-}
-
 // Makes one call.
 pub fn make<N: Negotiator, S: Source>(walk: &mut N, source: &S, call: Call) -> Reply
-    ensures { Answers N.Negotiator.algorithm (S.Source.meaning source.now) (N.Negotiator.walk walk.old) call result (N.Negotiator.walk walk.new) }
+    ensures { Answers N.Negotiator.ALGORITHM (S.Source.meaning source.now) (N.Negotiator.walk walk.old) call result (N.Negotiator.walk walk.new) }
 {
     match call {
-        Call::KnownCommon(id) => done(walk.known_common(source, id)),
-        Call::AddTip(id) => done(walk.add_tip(source, id)),
-        Call::NextHave => have(walk.next_have(source)),
-        Call::InCommonWithRemote(id) => told(walk.in_common_with_remote(source, id)),
-        Call::Note(id, remark) => done(walk.note(source, id, remark)),
+        Call::KnownCommon(id) => walk.known_common(source, id).into(),
+        Call::AddTip(id) => walk.add_tip(source, id).into(),
+        Call::NextHave => walk.next_have(source).into(),
+        Call::InCommonWithRemote(id) => walk.in_common_with_remote(source, id).into(),
+        Call::Note(id, remark) => walk.note(source, id, remark).into(),
     }
 }
 
-// Makes the calls in turn, as many as there are places for the replies, and says how many.
+// Makes the calls in turn, as many as there are places for the replies, and says how many. The caller lends the places,
+// since a call may not allocate.
 pub fn play<N: Negotiator, S: Source>(
     walk: &mut N,
     source: &S,
@@ -58,9 +29,10 @@ pub fn play<N: Negotiator, S: Source>(
     replies: &mut [Reply],
 ) -> usize
     ensures count { result ≡ min (length calls.now) (length replies.old) }
-    ensures played { Played N.Negotiator.algorithm (S.Source.meaning source.now) (N.Negotiator.walk walk.old) (take result calls.now) (take result replies.new) (N.Negotiator.walk walk.new) }
+    ensures played { Played N.Negotiator.ALGORITHM (S.Source.meaning source.now) (N.Negotiator.walk walk.old) (take result calls.now) (take result replies.new) (N.Negotiator.walk walk.new) }
     ensures rest { drop result replies.new ≡ drop result replies.old }
 {
+    // By index, since a proof knows nothing of the elements that an adapter of `iter_mut` lent.
     let count = calls.len().min(replies.len());
     for i in 0..count {
         replies[i] = make(walk, source, calls[i]);

@@ -13,7 +13,8 @@ const LARGE_FLUSH: usize = 16_384;
 // A round above this is denied, so that its growth fits every machine's numbers.
 const LARGEST_WINDOW: usize = 1_000_000_000;
 
-// The size of the next round, from that of the round before, where there was one.
+// The size of the next round, from that of the round before, where there was one. The flag is gix-negotiate's own, and
+// no plainer as an enum of two.
 pub fn window_size(
     transport_is_stateless: bool,
     window_size: Option<usize>,

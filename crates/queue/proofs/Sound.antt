@@ -1,5 +1,5 @@
 -- What a queue keeps of its places, in one record.
-use Rattle.std.proofs.Common.{◌≡◌, ℕ, zero, suc, ◌+◌, ◌-◌, ◌<◌, ◌≤◌, cond, eqb, ◌≢◌, List, [], ◌∷◌, length, get_or, take, vec_items, sym, ap, ◌∙◌, subst, ⊎_elim, arith}
+use Rattle.std.proofs.Common.{◌≡◌, ℕ, zero, suc, ◌+◌, ◌<◌, ◌≤◌, cond, eqb, ◌≢◌, List, [], ◌∷◌, length, get_or, take, vec_items, sym, ap, ◌∙◌, subst, ⊎_elim, arith}
 use Rattle.std.proofs.lemmas.Bool.{cases_eq, cond-true, cond-false, eq-eqb, ne_eqb}
 use Rattle.std.proofs.ByRecursion.{All-get_or, All-from_get_or, all_shuffled}
 use Rattle.std.proofs.lemmas.List.{get_or-take, length-take-le, with_items_is}
@@ -56,27 +56,25 @@ module _ {V : Type 0} where
       (λ (z : q.len ≢ 0). let is : o ≡ q.next = e ∙ cond-false (eqb q.len 0) 0 q.next (ne_eqb q.len 0 z) in (subst (λ (n : ℕ). Below n (held q)) (sym is) (sound_of q).numbered, omega (arith, q.few), omega arith))
       (cases_eq q.len 0)
 
-  -- the top place p of a queue is pulled, and zs are its places then
-  pub record Pulled (q : Queue V) (p : Place V) (zs : List (Place V)) : Type 0 where
+  -- the top place p of a queue is pulled, and the first `last` of zs are its places then
+  pub record Pulled (q : Queue V) (last : ℕ) (p : Place V) (zs : List (Place V)) : Type 0 where
     pub places : vec_items (with_items q.places zs) ≡ zs
-    pub all : ordered (held q) ≡ p ∷ ordered (take (q.len - 1) zs)
-    pub sound : Sound zs (q.len - 1) q.next
+    pub all : ordered (held q) ≡ p ∷ ordered (take last zs)
+    pub sound : Sound zs last q.next
 
-  pub pulled : (q : Queue V) (p : Place V) (ys zs : List (Place V)) → (q.len ≡ 0 → ⊥) → ys ≡ vec_items q.places → length zs ≡ length ys
-      → p ≡ get_or ys 0 p → IsPermutation (take (q.len - 1 + 1) ys) (p ∷ take (q.len - 1) zs) → (Heaped ys (q.len - 1 + 1) → Heaped zs (q.len - 1)) → Pulled q p zs
-  pulled q p ys zs some same long top sh hp =
+  pub pulled : (q : Queue V) (last : ℕ) (p : Place V) (ys zs : List (Place V)) → last + 1 ≡ q.len → ys ≡ vec_items q.places → length zs ≡ length ys
+      → p ≡ get_or ys 0 p → IsPermutation (take (last + 1) ys) (p ∷ take last zs) → (Heaped ys (last + 1) → Heaped zs last) → Pulled q last p zs
+  pulled q last p ys zs n same long top sh hp =
       let s = sound_of q in
       let xs = vec_items q.places in
-      let last = q.len - 1 in
-      let n : last + 1 ≡ q.len = omega (arith, some) in
       let moved : IsPermutation (held q) (p ∷ take last zs) = subst (λ (k : ℕ). IsPermutation (take k xs) (p ∷ take last zs)) n (subst (λ (l : List (Place V)). IsPermutation (take (last + 1) l) (p ∷ take last zs)) same sh) in
-      let told = drawn p (held q) (take last zs) s.apart moved (first_of xs q.len p (omega (arith, some)) s.within (subst (λ (l : List (Place V)). p ≡ get_or l 0 p) same top) s.heap) in
+      let told = drawn p (held q) (take last zs) s.apart moved (first_of xs q.len p (omega (arith, n)) s.within (subst (λ (l : List (Place V)). p ≡ get_or l 0 p) same top) s.heap) in
       record {
         places = with_items_is q.places zs (omega (arith, long, ap length same, q.places.ok.0));
         all = told.0;
         sound = record {
-          within = omega (arith, long, s.within, ap length same);
-          few = omega (arith, s.few);
+          within = omega (arith, long, s.within, n, ap length same);
+          few = omega (arith, s.few, n);
           heap = hp (subst (λ (l : List (Place V)). Heaped l (last + 1)) (sym same) (subst (λ (k : ℕ). Heaped xs k) (sym n) s.heap));
           apart = told.1;
           numbered = (all_shuffled (λ r. r.order < q.next) (held q) (p ∷ take last zs) moved s.numbered).1;

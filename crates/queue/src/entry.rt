@@ -3,14 +3,14 @@ ghost use Rattle.std.specs.Prelude.{◌≡◌};
 ghost use Rattle.queue.specs.Places.{empty_place, entry};
 
 // What waits: a value with its date.
-#[derive(Clone, Copy)]
+#[derive(Clone, Copy, Debug, PartialEq, Eq)]
 pub struct Entry<V> {
     pub date: i64,
     pub value: V,
 }
 
 // A place of the heap: an entry with its number in the order of entering.
-#[derive(Clone, Copy)]
+#[derive(Clone, Copy, Debug, PartialEq, Eq)]
 pub struct Place<V> {
     pub(crate) date: i64,
     pub(crate) order: u64,

@@ -1,11 +1,12 @@
 // A binary heap in places that the caller lends. The first is drawn next; entries of one date are told apart by the
-// order in which they entered.
-ghost use Rattle.std.specs.Prelude.{◌≡◌, ℕ, ◌+◌, ◌-◌, ◌*◌, ◌^◌, ◌<◌, ◌≤◌, List, [], ◌∷◌, length, take, replicate, vec_len, slice_index_or};
+// order in which they entered. std's `BinaryHeap` would own the places, lose those that are free, and maybe allocate.
+ghost use Rattle.std.specs.Prelude.{◌≡◌, ℕ, ◌+◌, ◌-◌, ◌*◌, ◌^◌, ◌<◌, ◌≤◌, List, [], ◌∷◌, length, take, slice_index_or};
 ghost use Rattle.std.specs.List.Sorted.{IsPermutation};
 ghost use Rattle.queue.specs.Waiting.{enter, tail, head};
 ghost use Rattle.queue.specs.Order.{before, Heaped, Topless, Chief};
 
 use crate::entry::Place;
+use std::cmp::Reverse;
 
 // Whether the place a is drawn before the place b.
 fn sooner<V>(places: &[Place<V>], a: usize, b: usize) -> bool
@@ -15,28 +16,26 @@ fn sooner<V>(places: &[Place<V>], a: usize, b: usize) -> bool
     first(&places[a], &places[b])
 }
 
-// Whether p is drawn before q.
+// Whether p is drawn before q. No `Ord` of places, since those of equal keys may hold different values.
 fn first<V>(p: &Place<V>, q: &Place<V>) -> bool
     ensures { result ≡ before p.now q.now }
 {
-    if q.date < p.date {
-        return true;
-    }
-    if p.date < q.date {
-        return false;
-    }
-    p.order < q.order
+    (Reverse(p.date), p.order) < (Reverse(q.date), q.order)
 }
 
-// The places before `at` are a heap; afterwards so are they with the one at `at`.
+// The places before `at` are a heap; afterwards so are they with the one at `at`. The index goes from child to parent.
 fn rise<V>(places: &mut [Place<V>], mut at: usize)
     requires { at < length places.old }
     ensures shuffled { IsPermutation (take (at + 1) places.old) (take (at + 1) places.new) }
     ensures heap { Heaped places.old at → Heaped places.new (at + 1) }
 {
-    while at > 0 && sooner(places, at, (at - 1) / 2) {
-        places.swap((at - 1) / 2, at);
-        at = (at - 1) / 2;
+    while at > 0 {
+        let parent = (at - 1) / 2;
+        if !sooner(places, at, parent) {
+            return;
+        }
+        places.swap(parent, at);
+        at = parent;
     }
 }
 
@@ -47,16 +46,14 @@ fn child<V>(places: &[Place<V>], at: usize, len: usize) -> usize
     ensures best { Chief places.now at result len }
 {
     let left = 2 * at + 1;
-    if len <= left + 1 {
-        return left;
+    if len <= left + 1 || sooner(places, left, left + 1) {
+        left
+    } else {
+        left + 1
     }
-    if sooner(places, left, left + 1) {
-        return left;
-    }
-    left + 1
 }
 
-// The first `len` places are a heap but for the top; afterwards they are one.
+// The first `len` places are a heap but for the top; afterwards they are one. The index goes from parent to child.
 fn sink<V>(places: &mut [Place<V>], len: usize)
     requires { len ≤ length places.old }
     ensures shuffled { IsPermutation (take len places.old) (take len places.new) }
@@ -94,22 +91,4 @@ pub(crate) fn pull<V: Copy>(places: &mut [Place<V>], last: usize) -> Place<V>
     places.swap(0, last);
     sink(places, last);
     top
-}
-
-// Writes `empty` into every place.
-fn wipe<V: Copy>(places: &mut [Place<V>], empty: Place<V>)
-    ensures { places.new ≡ replicate (length places.old) empty }
-{
-    for k in 0..places.len() {
-        places[k] = empty;
-    }
-}
-
-// The places with `empty` in every one.
-pub(crate) fn wiped<V: Copy>(mut places: Vec<Place<V>>, empty: Place<V>) -> Vec<Place<V>>
-    ensures items { result.items ≡ replicate (vec_len places) empty }
-    ensures len { vec_len result ≡ vec_len places }
-{
-    wipe(places.as_mut_slice(), empty);
-    places
 }

@@ -1,52 +1,23 @@
 // A recorded walk played from a book's making to its last call.
 #![tactic(auto)]
 
-ghost use Rattle.std.specs.Prelude.{◌≡◌, length, IfOk, vec_len};
-ghost use Rattle.session.specs.Sessions.{Sized, Whole};
+ghost use Rattle.std.specs.Prelude.{IfOk};
+ghost use Rattle.session.specs.Sessions.{Whole};
 
-use book::types::Row;
-use model::{Call, Reply, Step};
+use model::{Call, Event};
 use negotiate::Negotiator;
-use negotiate::play::play;
-use queue::entry::Place;
-use source::{ObjectId, Source};
+use negotiate::recording::recorded;
+use source::Source;
 use std::alloc::{AllocError, Global};
 use walk::state::making::Buffers;
 
 pub mod transcript;
 
-// The walk as the last call left it, and what each call gave back.
+// The walk as the last call left it, and each call with what it gave back.
 #[derive(Drop)]
 pub struct Session<N> {
     pub walk: N,
-    pub replies: Vec<Reply>,
-}
-
-// Buffers for a book of so many rows and links.
-pub fn buffers(heap: Global, rows: usize, links: usize) -> Result<Buffers, AllocError>
-    ensures { IfOk result (λ b. Sized b rows links) }
-{
-    let zero = ObjectId { bytes: [0; 20] };
-    let queue = vec![in heap; Place::empty(0usize); rows]?;
-    let marking = vec![in heap; Place::empty(Step {
-        row: 0,
-        generation: 0
-    }); rows]?;
-    let rows = vec![in heap; Row::empty(); rows]?;
-    let links = vec![in heap; zero; links]?;
-    Ok(Buffers {
-        rows,
-        links,
-        queue,
-        marking,
-    })
-}
-
-// Places for so many replies.
-fn places(heap: Global, count: usize) -> Result<Vec<Reply>, AllocError>
-    ensures { IfOk result (λ v. vec_len v ≡ count) }
-{
-    vec![in heap; Reply::Done; count]
+    pub events: Vec<Event>,
 }
 
 // Plays the calls over a book of so many rows and links. The calls with their replies are a past of the walk, the
@@ -58,11 +29,26 @@ pub fn run<N: Negotiator + Drop, S: Source>(
     source: &S,
     calls: &[Call],
 ) -> Result<Session<N>, AllocError>
-    ensures { IfOk result (λ x. Whole N.Negotiator.algorithm (S.Source.meaning source.now) rows links calls.now x.replies.items (N.Negotiator.walk x.walk)) }
+    ensures { IfOk result (λ x. Whole N.Negotiator.ALGORITHM (S.Source.meaning source.now) rows links calls.now x.events.items (N.Negotiator.walk x.walk)) }
 {
-    let mut replies = places(heap, calls.len())?;
-    let buffers = buffers(heap, rows, links)?;
-    let mut walk = N::new(buffers);
-    let _ = play(&mut walk, source, calls, replies.as_mut_slice());
-    Ok(Session { walk, replies })
+    let mut walk = N::new(Buffers::sized(heap, rows, links)?);
+    let events = recorded(heap, &mut walk, source, calls)?;
+    Ok(Session { walk, events })
+}
+
+#[cfg(test)]
+mod tests {
+    use super::*;
+    use negotiate::noop::Noop;
+    use source::ObjectId;
+    use store::Store;
+
+    #[test]
+    fn each_call_is_kept(rt: HostRuntime) -> Result<(), AllocError> {
+        let store = Store::new(b"");
+        let calls = [Call::AddTip(ObjectId::NULL), Call::NextHave];
+        let session = run::<Noop, Store>(rt.alloc(), 3, 5, &store, &calls)?;
+        assert_eq!(rt; session.events.len(), 2);
+        Ok(())
+    }
 }

@@ -1,5 +1,5 @@
 -- The negotiator's state as the rules see it, and what its marking keeps.
-use Rattle.std.specs.Prelude.{◌≡◌, ℕ, true, false, ◌⊎◌, List, ◌∷◌, ℤ, Some, None, Ok, Err, Option, Result, ◌==◌}
+use Rattle.std.specs.Prelude.{◌≡◌, ℕ, ◌+◌, ◌≤◌, true, false, ◌⊎◌, List, ◌∷◌, length, ℤ, Some, None, Ok, Err, Option, Result}
 use Rattle.source.specs.declared.ObjectId.{ObjectId}
 use Rattle.book.specs.declared.types.Denial.{Denial}
 use Rattle.book.specs.declared.types.Denial.TheVariants.{MissingParent}
@@ -11,10 +11,10 @@ use Rattle.model.specs.Skipping.{Add, Next}
 use Rattle.model.specs.Parts.{ended}
 use Rattle.model.specs.SkipParts.{Took}
 use Rattle.model.specs.View.{unpack}
-use Rattle.model.specs.Steady.{SkipHeld, Ext}
+use Rattle.model.specs.Steady.{SkipHeld, Ext, common_rows}
 use Rattle.walk.specs.View as state
 use Rattle.skipping.specs.declared.Algorithm.{Algorithm}
-use Rattle.skipping.specs.declared.drawing.Turn.{Turn}
+use Rattle.walk.specs.declared.state.drawing.Drawn.{Drawn}
 
 abbrev pub walk : Algorithm → Walk
 walk a = state.view a.state
@@ -30,17 +30,19 @@ Held a = SkipHeld (walk a) (marks a) (state.mark_numbered a.state)
 abbrev pub HeldWith : Algorithm → Step → Type 0
 HeldWith a e = (date : ℤ) × SkipHeld (walk a) (record { date = date; value = e } ∷ marks a) (state.mark_numbered a.state)
 
+-- what a part of a marking keeps: what waits to be marked from is held, the rows stay, and each row that came to wait gained COMMON
+pub record Keeps (a b : Algorithm) : Type 0 where
+  pub held : Held b
+  pub grows : Ext (walk a) (walk b)
+  pub pays : length (marks b) + common_rows (walk a) ≤ length (marks a) + common_rows (walk b)
+
 abbrev pub parents_at : Algorithm → ℕ → List ObjectId
 parents_at a k = (row (walk a) k).parents
 
 -- what a draw gives: a row with what it had, which is POPPED now, or that none is left
-abbrev pub Drew : Walk → Option Turn → Walk → Type 0
+abbrev pub Drew : Walk → Option Drawn → Walk → Type 0
 Drew s None t = (src : Source) → Next src s NoneLeft t
-Drew s (Some d) t = Took s d.row (unpack d.entry.flags.bits) d.entry.original_ttl d.entry.ttl t
-
--- a draw, which is lost where the count is zero
-abbrev pub DrewUnspent : Walk → Option ℕ → Walk → Type 0
-DrewUnspent s r t = ((false ≡ (t.count == 0)) × state.Drew s r t) ⊎ ((true ≡ (t.count == 0)) × (r ≡ None) × ((o : Option ℕ) × state.Drew s o t))
+Drew s (Some d) t = Took s d.row (unpack d.had.flags.bits) d.had.original_ttl d.had.ttl t
 
 -- an id is passed over where it has a row with SEEN, else it is added to the queue
 abbrev pub AddsUnseen : Source → Flags → ObjectId → Walk → Result (Unit {0}) Denial → Walk → Type 0

@@ -1,18 +1,14 @@
 // The calls of the interface.
 ghost use Rattle.std.specs.Prelude.{◌≡◌, if◌then◌else◌, Ok, Err};
 ghost use Rattle.book.specs.declared.types.Denial.TheVariants.{NotSeen};
-ghost use Rattle.model.specs.declared.Algorithm.{Algorithm as Kind};
 ghost use Rattle.model.specs.declared.Algorithm.TheVariants as algorithms;
-ghost use Rattle.model.specs.declared.Call.TheVariants.{Note as Noting};
 ghost use Rattle.model.specs.Book.{find};
 ghost use Rattle.model.specs.Steps.{sees, common_at};
-ghost use Rattle.model.specs.Past.{does, Called};
-ghost use Rattle.model.specs.Parts.{dones};
 ghost use Rattle.walk.specs.View.{view};
 
 use crate::Algorithm;
 use book::book::Book;
-use book::types::{Denial, Remark};
+use book::types::{Denial, Flags, Remark};
 use negotiate::Negotiator;
 use source::{ObjectId, Source};
 use walk::state::State;
@@ -28,30 +24,14 @@ impl Algorithm {
         }
         Ok(self.state.has_common(id))
     }
-
-    // Looks an id up, and sets the flag of the remark in its row, where there is one.
-    fn set_remark<S: Source>(
-        &mut self,
-        source: &S,
-        id: ObjectId,
-        remark: Remark,
-    ) -> Result<(), Denial>
-        ensures { (n : Kind) → Called (does n (S.meaning source.now)) (view self.old.state) (Noting id remark) (dones result) (view self.new.state) }
-    {
-        self.state.note(source, id, remark)
-    }
 }
 
 impl Negotiator for Algorithm {
-    const NUMBER: u8 = 2;
+    const ALGORITHM: model::Algorithm = model::Algorithm::Skipping;
 
-    ghost algorithm = { algorithms.Skipping };
+    ghost ALGORITHM = { algorithms.Skipping };
 
     ghost walk = { λ a. view a.state };
-
-    fn which(&self) -> u8 {
-        Self::NUMBER
-    }
 
     fn new(buffers: Buffers) -> Algorithm {
         Algorithm {
@@ -64,23 +44,17 @@ impl Negotiator for Algorithm {
     }
 
     fn known_common<S: Source>(&mut self, source: &S, id: ObjectId) -> Result<(), Denial> {
-        if self.state.is_stopped() {
-            return Err(Denial::Stopped);
-        }
-        self.add_advertised(source, id)
+        self.state.going()?;
+        self.add_unseen(source, id, Flags::ADVERTISED_AND_SEEN)
     }
 
     fn add_tip<S: Source>(&mut self, source: &S, id: ObjectId) -> Result<(), Denial> {
-        if self.state.is_stopped() {
-            return Err(Denial::Stopped);
-        }
-        self.add_own(source, id)
+        self.state.going()?;
+        self.add_unseen(source, id, Flags::SEEN)
     }
 
     fn next_have<S: Source>(&mut self, source: &S) -> Result<Option<usize>, Denial> {
-        if self.state.is_stopped() {
-            return Err(Denial::Stopped);
-        }
+        self.state.going()?;
         self.next(source)
     }
 
@@ -89,16 +63,14 @@ impl Negotiator for Algorithm {
         source: &S,
         id: ObjectId,
     ) -> Result<bool, Denial> {
-        if self.state.is_stopped() {
-            return Err(Denial::Stopped);
-        }
+        self.state.going()?;
         let known = self.is_known(id)?;
         self.mark_common(source, id)?;
         Ok(known)
     }
 
     fn note<S: Source>(&mut self, source: &S, id: ObjectId, remark: Remark) -> Result<(), Denial> {
-        self.set_remark(source, id, remark)
+        self.state.note(source, id, remark)
     }
 
     fn into_buffers(self) -> Buffers {

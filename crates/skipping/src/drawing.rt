@@ -1,37 +1,27 @@
 // Drawing rows, and handing skip numbers on to their parents.
-ghost use Rattle.std.specs.Prelude.{◌≡◌, ◌<◌, true, false, length, if◌then◌else◌};
+ghost use Rattle.std.specs.Prelude.{◌≡◌, ◌<◌, length};
 ghost use Rattle.model.specs.Book.{find};
 ghost use Rattle.model.specs.Skipping.{new_original, new_ttl, numbered, pops, shares, Next};
 ghost use Rattle.model.specs.Parts.{haves};
 ghost use Rattle.model.specs.SkipParts.{Pushed, Handed, offered};
 ghost use Rattle.model.specs.Steady.{Ext};
 ghost use Rattle.model.specs.View.{unpack};
-ghost use Rattle.walk.specs.View.{view, Quiet};
-ghost use Rattle.skipping.specs.Seen.{walk, parents_at, HasRow, Drew, DrewUnspent};
+ghost use Rattle.skipping.specs.Seen.{walk, parents_at, HasRow, Drew};
 
 use crate::Algorithm;
 use book::types::{Denial, Flags, Metadata};
 use source::{ObjectId, Source};
-use walk::state::State;
+use walk::state::drawing::Drawn;
 
-// The largest skip number.
-const MOST: u32 = 65_535;
-
-// A row that was drawn, with what it had before.
-#[derive(Clone, Copy)]
-pub(crate) struct Turn {
-    row: usize,
-    entry: Metadata,
-}
-
-// The pair of skip numbers that a drawn row hands on to its parents.
+// The original and the running skip number that a drawn row hands on to its parents. A pair: it is what `Book::skip` gives
+// and `set_skip` takes.
 fn hand_on(original_ttl: u16, ttl: u16) -> (u16, u16)
     ensures { (result.0 ≡ new_original original_ttl ttl) × (result.1 ≡ new_ttl original_ttl ttl) }
 {
     if ttl > 0 {
         return (original_ttl, ttl - 1);
     }
-    let grown = (u32::from(original_ttl) * 3 / 2 + 1).min(MOST) as u16;
+    let grown = u16::try_from(u32::from(original_ttl) * 3 / 2 + 1).unwrap_or(u16::MAX);
     (grown, grown)
 }
 
@@ -49,38 +39,12 @@ fn is_offered(entry: Metadata, pushed: bool) -> bool
     !entry.flags.intersects(Flags::COMMON) && (entry.ttl == 0 || !pushed)
 }
 
-// 1 for a row without COMMON, else 0.
-fn uncommon(flags: Flags) -> usize
-    ensures { result ≡ (if (unpack flags.bits).common then 0 else 1) }
-{
-    if flags.intersects(Flags::COMMON) {
-        0
-    } else {
-        1
-    }
-}
-
-// Draws from the queue. With a count of zero the drawn entry is lost.
-fn draw(state: &mut State) -> Option<usize>
-    ensures is { DrewUnspent (view state.old) result (view state.new) }
-    ensures quiet { Quiet state.old state.new }
-{
-    let drawn = state.dequeue();
-    if state.is_spent() {
-        return None;
-    }
-    drawn
-}
-
 impl Algorithm {
     // Whether an id has a row with SEEN that was drawn.
     fn has_popped(&self, id: ObjectId) -> bool
         ensures { result ≡ pops (walk self.now) id }
     {
-        let Some(row) = self.state.find(id) else {
-            return false;
-        };
-        let flags = self.state.head(row).flags;
+        let flags = self.state.flags_of(id);
         flags.intersects(Flags::SEEN) && flags.intersects(Flags::POPPED)
     }
 
@@ -119,7 +83,7 @@ impl Algorithm {
         if self.has_popped(id) {
             return Ok(false);
         }
-        self.add_own(source, id)?;
+        self.add_unseen(source, id, Flags::SEEN)?;
         if passes_common(entry.flags) {
             self.mark_common(source, id)?;
             return Ok(true);
@@ -140,6 +104,7 @@ impl Algorithm {
         ensures is { Handed (S.meaning source.now) (unpack metadata.flags.bits) metadata.original_ttl metadata.ttl (parents_at self.old row) (walk self.old) result (walk self.new) }
         ensures grows { Ext (walk self.old) (walk self.new) }
     {
+        // By number, since the parents lie in the book that the body fills.
         let count = self.state.head(row).parents;
         let mut pushed = false;
         for n in 0..count {
@@ -150,31 +115,23 @@ impl Algorithm {
     }
 
     // Draws a row, which becomes POPPED. With a count of zero the drawn entry is lost.
-    fn draw_row(&mut self) -> Option<Turn>
+    fn draw_row(&mut self) -> Option<Drawn>
         ensures is { Drew (walk self.old) result (walk self.new) }
         ensures grows { Ext (walk self.old) (walk self.new) }
     {
-        let Some(row) = draw(&mut self.state) else {
-            return None;
-        };
-        let entry = self.state.metadata(row);
-        self.state.set_flags(row, Flags::POPPED);
-        self.state.lower_count(uncommon(entry.flags));
-        Some(Turn { row, entry })
+        self.state.draw()
     }
 
     // Draws until it has something to offer.
     pub(crate) fn next<S: Source>(&mut self, source: &S) -> Result<Option<usize>, Denial>
         ensures { Next (S.meaning source.now) (walk self.old) (haves result) (walk self.new) }
     {
-        loop {
-            let Some(turn) = self.draw_row() else {
-                break Ok(None);
-            };
-            let pushed = self.push_parents(source, turn.row, turn.entry)?;
-            if is_offered(turn.entry, pushed) {
-                break Ok(Some(turn.row));
+        while let Some(turn) = self.draw_row() {
+            let pushed = self.push_parents(source, turn.row, turn.had)?;
+            if is_offered(turn.had, pushed) {
+                return Ok(Some(turn.row));
             }
         }
+        Ok(None)
     }
 }

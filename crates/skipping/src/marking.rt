@@ -1,6 +1,7 @@
-// Adding a commit to the queue, and marking all ancestors of a commit as common.
+// Adding a commit to the queue, and marking all ancestors of a commit as common. What many clauses say here (`Ext`, `Quiet`, that
+// a row is inside) is one word or one inequality each, of another row each time: a name would be no plainer.
 ghost use Rattle.std.specs.Prelude.{◌≡◌, ◌+◌, ◌<◌, ◌≤◌, false, [], length};
-ghost use Rattle.model.specs.Book.{SEEN as seen_only, ADVERTISED_AND_SEEN as advertised_and_seen, flags_at};
+ghost use Rattle.model.specs.Book.{flags_at};
 ghost use Rattle.model.specs.Steps.{sees};
 ghost use Rattle.model.specs.Skipping.{queued, shared, falls, Add, Spread, Mark};
 ghost use Rattle.model.specs.Parts.{Looks, ended};
@@ -8,7 +9,7 @@ ghost use Rattle.model.specs.SkipParts.{Adds, SeenIfThere, SpreadOne, SpreadAll,
 ghost use Rattle.model.specs.Steady.{Ext, common_rows};
 ghost use Rattle.model.specs.View.{unpack};
 ghost use Rattle.walk.specs.View.{Quiet};
-ghost use Rattle.skipping.specs.Seen.{walk, marks, parents_at, Held, HeldWith, AddsUnseen};
+ghost use Rattle.skipping.specs.Seen.{walk, marks, parents_at, Held, HeldWith, Keeps, AddsUnseen};
 
 use crate::Algorithm;
 use book::types::{Denial, Flags};
@@ -16,7 +17,8 @@ use model::Step;
 use source::{ObjectId, Source};
 
 impl Algorithm {
-    // The row of an id, which comes in from the source where there is none yet.
+    // The row of an id, which comes in from the source where there is none yet. A step of its own, so that the type's
+    // invariant is shown once for all calls that look up.
     fn lookup<S: Source>(&mut self, source: &S, id: ObjectId) -> Result<Option<usize>, Denial>
         ensures is { Looks (S.meaning source.now) (walk self.old) id (walk self.new) result }
         ensures quiet { Quiet self.old.state self.new.state }
@@ -36,7 +38,8 @@ impl Algorithm {
         self.state.raise_count(1);
     }
 
-    // Looks an id without SEEN up, and lets its row enter the queue.
+    // Looks an id without SEEN up, and lets its row enter the queue. The consecutive walk's `push` has the same shape and
+    // another rule: it lets a row with SEEN pass, and looks at the mask.
     fn add_to_queue<S: Source>(
         &mut self,
         source: &S,
@@ -55,8 +58,14 @@ impl Algorithm {
         Ok(())
     }
 
-    // The same, unless the id has a row with SEEN.
-    fn add_unseen<S: Source>(&mut self, source: &S, id: ObjectId, mask: Flags) -> Result<(), Denial>
+    // The same, unless the id has a row with SEEN. A commit of our own enters with SEEN, one that the remote is known to
+    // have with ADVERTISED too.
+    pub(crate) fn add_unseen<S: Source>(
+        &mut self,
+        source: &S,
+        id: ObjectId,
+        mask: Flags,
+    ) -> Result<(), Denial>
         requires { Adds mask.bits }
         ensures { AddsUnseen (S.meaning source.now) (unpack mask.bits) id (walk self.old) result (walk self.new) }
     {
@@ -65,35 +74,13 @@ impl Algorithm {
         }
         self.add_to_queue(source, id, mask)
     }
-
-    // A commit of our own enters the queue: a tip, or a parent of a drawn commit.
-    pub(crate) fn add_own<S: Source>(&mut self, source: &S, id: ObjectId) -> Result<(), Denial>
-        ensures { AddsUnseen (S.meaning source.now) seen_only id (walk self.old) result (walk self.new) }
-    {
-        self.add_unseen(source, id, Flags::SEEN)
-    }
-
-    // A commit enters the queue that the remote is known to have.
-    pub(crate) fn add_advertised<S: Source>(
-        &mut self,
-        source: &S,
-        id: ObjectId,
-    ) -> Result<(), Denial>
-        ensures { AddsUnseen (S.meaning source.now) advertised_and_seen id (walk self.old) result (walk self.new) }
-    {
-        self.add_unseen(source, id, Flags::ADVERTISED_AND_SEEN)
-    }
 }
 
 // 1 for a row without POPPED, else 0.
 fn unpopped(flags: Flags) -> usize
     ensures { result ≡ falls (unpack flags.bits) }
 {
-    if flags.intersects(Flags::POPPED) {
-        0
-    } else {
-        1
-    }
+    usize::from(!flags.intersects(Flags::POPPED))
 }
 
 impl Algorithm {
@@ -111,9 +98,7 @@ impl Algorithm {
     fn spread_one(&mut self, id: ObjectId)
         requires { Held self.old }
         ensures is { SpreadOne id (marks self.old) (walk self.old) (marks self.new) (walk self.new) }
-        ensures held { Held self.new }
-        ensures grows { Ext (walk self.old) (walk self.new) }
-        ensures pays { length (marks self.new) + common_rows (walk self.old) ≤ length (marks self.old) + common_rows (walk self.new) }
+        ensures keeps { Keeps self.old self.new }
     {
         let Some(row) = self.state.find(id) else {
             return;
@@ -134,10 +119,9 @@ impl Algorithm {
         requires inside { row < length (walk self.old).rows }
         requires held { Held self.old }
         ensures is { SpreadAll (parents_at self.old row) (marks self.old) (walk self.old) (marks self.new) (walk self.new) }
-        ensures held { Held self.new }
-        ensures grows { Ext (walk self.old) (walk self.new) }
-        ensures pays { length (marks self.new) + common_rows (walk self.old) ≤ length (marks self.old) + common_rows (walk self.new) }
+        ensures keeps { Keeps self.old self.new }
     {
+        // By number, since the parents lie in the book that the body marks.
         let count = self.state.head(row).parents;
         for n in 0..count {
             let parent = self.state.parent(row, n);
@@ -149,9 +133,7 @@ impl Algorithm {
     fn visit(&mut self, step: Step)
         requires { HeldWith self.old step }
         ensures is { Visited step (marks self.old) (walk self.old) (marks self.new) (walk self.new) }
-        ensures held { Held self.new }
-        ensures grows { Ext (walk self.old) (walk self.new) }
-        ensures pays { length (marks self.new) + common_rows (walk self.old) ≤ length (marks self.old) + common_rows (walk self.new) }
+        ensures keeps { Keeps self.old self.new }
     {
         let flags = self.state.head(step.row).flags;
         self.state.lower_count(unpopped(flags));

@@ -1,64 +1,73 @@
 // Where commits come from: ids, faults, and what every source of commits promises.
 #![tactic(auto)]
 
-ghost use Rattle.std.specs.Prelude.{◌≡◌, ℕ};
-ghost use Rattle.std.specs.Str.{bytes_eq};
+ghost use Rattle.std.specs.Prelude.{◌≡◌, ℕ, ◌≢◌, length, Some, MatchResult};
+ghost use Rattle.source.specs.Hex.{hex_of};
 ghost use Rattle.source.specs.Meaning.{Meaning, number_of, kind_of, fault_of, date_of, count_of, parent_of};
 ghost use Rattle.source.specs.declared.ObjectId.{ObjectId as Id};
-ghost use Rattle.std.specs.Cmp.Rules.{comparing};
-ghost use Rattle.std.proofs.Common.{rules};
+
+use std::array::TryFromSliceError;
+use std::fmt;
 
 pub mod overlay;
 
 // An object's name: 20 bytes.
-#[derive(Clone, Copy, Debug)]
+#[derive(Clone, Copy, Debug, PartialEq, Eq, PartialOrd, Ord, Hash)]
 pub struct ObjectId {
     pub bytes: [u8; 20],
 }
 
-// Whether two names are byte for byte the same.
-fn same(a: &[u8; 20], b: &[u8; 20]) -> bool
-    ensures { result ≡ bytes_eq a.now b.now }
-{
-    a == b
+impl ObjectId {
+    // The name of no object: twenty zeroes.
+    pub const NULL: ObjectId = ObjectId { bytes: [0; 20] };
 }
 
-impl PartialEq for ObjectId {
-    ghost eq = { λ a b. bytes_eq a.bytes b.bytes };
+// The name that twenty bytes are; none at any other length.
+impl TryFrom<&[u8]> for ObjectId {
+    type Error = TryFromSliceError;
 
-    ghost laws = { Prim.search (comparing, rules) };
+    ghost try_from_gives = { λ bytes r. MatchResult r (λ id. (length bytes.now ≡ 20) × (id.bytes ≡ bytes.now)) (λ _. length bytes.now ≢ 20) };
 
-    fn eq(&self, other: &ObjectId) -> bool {
-        same(&self.bytes, &other.bytes)
+    fn try_from(bytes: &[u8]) -> Result<ObjectId, TryFromSliceError> {
+        let bytes = <[u8; 20]>::try_from(bytes)?;
+        Ok(ObjectId { bytes })
     }
 }
 
-// What is wrong with a source's bytes.
-#[derive(Clone, Copy, Debug, PartialEq)]
+// Forty lower-case hex digits.
+impl fmt::Display for ObjectId {
+    ghost output = { λ id. Some (hex_of id.bytes) };
+
+    fn fmt<W: fmt::Write>(&self, f: &mut fmt::Formatter<W>) -> fmt::Result {
+        for b in self.bytes {
+            write!(f, "{b:02x}")?;
+        }
+        Ok(())
+    }
+}
+
+// What is wrong with a source's bytes. The number by which a cause is reported is its discriminant.
+#[derive(Clone, Copy, Debug, PartialEq, Eq)]
 pub enum Cause {
     // A field runs past the end.
-    PastEnd,
+    PastEnd = 21,
     // A field has the wrong tag or length, or stands out of order.
-    Misplaced,
+    Misplaced = 22,
     // A commit's text does not fit the layout.
-    Layout,
+    Layout = 23,
 }
 
 impl Cause {
-    // The number by which a cause is reported.
+    // The cause's number.
     pub fn number(self) -> u8
         ensures { result ≡ number_of self }
     {
-        match self {
-            Cause::PastEnd => 21,
-            Cause::Misplaced => 22,
-            Cause::Layout => 23,
-        }
+        self as u8
     }
 }
 
 // What a source found wrong: the cause, the byte where it stands, and the layer that met it, counted from 1.
-#[derive(Clone, Copy, Debug, PartialEq)]
+#[derive(Clone, Copy, Debug, PartialEq, Eq)]
 pub struct Fault {
     pub cause: Cause,
     pub place: usize,
@@ -66,7 +75,7 @@ pub struct Fault {
 }
 
 // What a source has of an id.
-#[derive(Clone, Copy, Debug, PartialEq)]
+#[derive(Clone, Copy, Debug, PartialEq, Eq)]
 pub enum Kind {
     Absent,
     Failing,
@@ -104,4 +113,31 @@ pub trait Source {
     // How many layers of sources this one is.
     fn depth(&self) -> u8
         ensures { result ≡ layers self.now };
+}
+
+#[cfg(test)]
+mod tests {
+    use super::*;
+    use std::test::Fail;
+
+    #[test]
+    fn an_id_is_printed_as_forty_digits(rt: HostRuntime) -> Result<(), Fail> {
+        let mut id = ObjectId::NULL;
+        id.bytes[0] = 0x1f;
+        id.bytes[19] = 0xa0;
+        let text = format!(in rt.alloc(); "{id}")?;
+        assert_eq!(rt; text.as_str(), "1f000000000000000000000000000000000000a0");
+        Ok(())
+    }
+
+    #[test]
+    fn twenty_bytes_are_an_id(rt: HostRuntime) -> Result<(), Fail> {
+        let bytes = [7u8; 20];
+        assert_eq!(rt;
+            ObjectId::try_from(bytes.as_slice()).ok(),
+            Some(ObjectId { bytes })
+        );
+        assert_eq!(rt; ObjectId::try_from(&bytes[..19]).ok(), None);
+        Ok(())
+    }
 }

@@ -6,19 +6,13 @@ use crate::{Fault, Kind, ObjectId, Source};
 
 // A front source over a back one: it answers as the front, and as the back where the front has nothing. Faults of the
 // back lie deeper by as many layers as the front has.
-#[derive(Clone, Copy, Drop)]
+#[derive(Clone, Copy, Debug, Drop)]
 pub struct Overlay<F, B> {
     pub front: F,
     pub back: B,
 }
 
-// The sum of two numbers of layers, held at 255.
-fn sum(a: u8, b: u8) -> u8
-    ensures { result ≡ min 255 (a + b) }
-{
-    if a > 255 - b { 255 } else { a + b }
-}
-
+// Each question is a match of its own: a helper that took the two answers as closures would be longer.
 impl<F: Source, B: Source> Source for Overlay<F, B> {
     ghost meaning = { λ s id. over (F.Source.layers s.front) (F.Source.meaning s.front id) (B.Source.meaning s.back id) };
 
@@ -34,11 +28,8 @@ impl<F: Source, B: Source> Source for Overlay<F, B> {
     fn fault(&self, id: ObjectId) -> Option<Fault> {
         match self.front.kind(id) {
             Kind::Absent => {
-                let Some(fault) = self.back.fault(id) else {
-                    return None;
-                };
-                let depth = self.front.depth();
-                let layer = sum(fault.layer, depth);
+                let fault = self.back.fault(id)?;
+                let layer = fault.layer.saturating_add(self.front.depth());
                 Some(Fault { layer, ..fault })
             }
             _ => self.front.fault(id),
@@ -67,6 +58,6 @@ impl<F: Source, B: Source> Source for Overlay<F, B> {
     }
 
     fn depth(&self) -> u8 {
-        sum(self.front.depth(), self.back.depth())
+        self.front.depth().saturating_add(self.back.depth())
     }
 }

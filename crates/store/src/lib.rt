@@ -3,67 +3,53 @@
 
 ghost use Rattle.std.specs.Prelude.{◌≡◌};
 ghost use Rattle.source.specs.Meaning.{kind_of, fault_of, date_of, count_of, parent_of};
-ghost use Rattle.fields.specs.Pairs.{pair_at};
-ghost use Rattle.store.specs.Stores.{store_of, pair_as, found_as, faulty, meant};
-ghost use Rattle.store.specs.declared.Held.TheVariants.{Failing};
+ghost use Rattle.store.specs.Stores.{store_of, found_as, held_as, meant};
 
 use commit::Commit;
-use fields::{Found, Pair};
+use fields::Misfit;
 use source::{Cause, Fault, Kind, ObjectId, Source};
 
-// What a store has of an id, with the lines of its parents.
-#[derive(Clone, Copy)]
-pub enum Held<'a> {
-    Absent,
-    Failing(Fault),
-    Holding(Commit<'a>),
-}
-
-// A fault of the one layer that a store is.
-fn failing<'a>(cause: Cause, place: usize) -> Held<'a>
-    ensures { result ≡ Failing (faulty cause place) }
+// The commit where a search of a store has found its pair, if it has found one.
+fn commit_at<'a>(
+    store: &'a [u8],
+    found: Result<Option<usize>, Misfit>,
+) -> Result<Option<Commit<'a>>, Fault>
+    ensures { held_as result ≡ found_as store.now found }
 {
-    let layer = 1;
-    Held::Failing(Fault {
-        cause,
-        place,
-        layer,
-    })
-}
-
-impl<'a> Held<'a> {
-    // What the pair at a place of a store holds.
-    fn at(store: &'a [u8], place: usize) -> Held<'a>
-        ensures { meant result ≡ pair_as (pair_at store.now place) }
-    {
-        match fields::pair_at(store, place) {
-            Pair::Bad { cause, place } => failing(cause, place),
-            Pair::Good { text, place, .. } => match commit::read(text) {
-                Ok(commit) => Held::Holding(commit),
-                Err(start) => failing(Cause::Layout, place + start),
-            },
+    let Some(place) = found? else {
+        return Ok(None);
+    };
+    let pair = fields::pair_at(store, place)?;
+    match commit::read(pair.text) {
+        Ok(commit) => Ok(Some(commit)),
+        Err(misfit) => {
+            let place = pair.place + misfit.line;
+            let cause = Cause::Layout;
+            Err(Misfit::new(cause, place).into())
         }
     }
+}
 
+// What a store has of an id: nothing, a commit with the lines of its parents, or a fault.
+#[derive(Clone, Copy, Debug)]
+pub struct Held<'a>(pub Result<Option<Commit<'a>>, Fault>);
+
+impl<'a> Held<'a> {
     // What is held where a search of a store has found it.
-    pub fn of(store: &'a [u8], found: Found) -> Held<'a>
+    pub fn of(store: &'a [u8], found: Result<Option<usize>, Misfit>) -> Held<'a>
         ensures { meant result ≡ found_as store.now found }
     {
-        match found {
-            Found::Absent => Held::Absent,
-            Found::Bad { cause, place } => failing(cause, place),
-            Found::At(place) => Held::at(store, place),
-        }
+        Held(commit_at(store, found))
     }
 
     // Which of the three it is.
     pub fn kind(self) -> Kind
         ensures { result ≡ kind_of (meant self.entry) }
     {
-        match self {
-            Held::Absent => Kind::Absent,
-            Held::Failing(_) => Kind::Failing,
-            Held::Holding(_) => Kind::Commit,
+        match self.0 {
+            Ok(None) => Kind::Absent,
+            Ok(Some(_)) => Kind::Commit,
+            Err(_) => Kind::Failing,
         }
     }
 
@@ -71,45 +57,36 @@ impl<'a> Held<'a> {
     pub fn fault(self) -> Option<Fault>
         ensures { result ≡ fault_of (meant self.entry) }
     {
-        match self {
-            Held::Failing(fault) => Some(fault),
-            _ => None,
-        }
+        self.0.err()
     }
 
     // The date, if it is a commit.
     pub fn date(self) -> Option<i64>
         ensures { result ≡ date_of (meant self.entry) }
     {
-        match self {
-            Held::Holding(commit) => Some(commit.date),
-            _ => None,
-        }
+        let commit = self.0.ok()??;
+        Some(commit.date)
     }
 
     // How many parents it has, if it is a commit.
     pub fn parent_count(self) -> Option<usize>
         ensures { result ≡ count_of (meant self.entry) }
     {
-        match self {
-            Held::Holding(commit) => Some(commit.count()),
-            _ => None,
-        }
+        let commit = self.0.ok()??;
+        Some(commit.count())
     }
 
     // A parent by its number, if it is a commit with so many.
     pub fn parent(self, n: usize) -> Option<ObjectId>
         ensures { result ≡ parent_of (meant self.entry) n }
     {
-        match self {
-            Held::Holding(commit) => commit.parent(n),
-            _ => None,
-        }
+        let commit = self.0.ok()??;
+        commit.parent(n)
     }
 }
 
 // The plain store, which is read from its front at each question: its meaning is that of its bytes.
-#[derive(Clone, Copy)]
+#[derive(Clone, Copy, Debug)]
 pub struct Store<'a> {
     bytes: &'a [u8],
 }

@@ -2,10 +2,10 @@
 // the input too, each after a `=`, and it says how many scenarios give another one, and shows the first.
 #![tactic(auto)]
 
-use crate::reading::{Scenario, at_end};
-use anyhow::anyhow;
+use crate::reading::{Scenario, at_end, word};
+use crate::running::push_denial;
+use anyhow::{anyhow, bail, ensure};
 use model::Algorithm;
-use negotiate::names::algorithm_named;
 use negotiate::window::window_size;
 use std::alloc::Global;
 use std::env;
@@ -38,15 +38,12 @@ struct Session {
 
 impl Session {
     fn new(heap: Global, mode: Mode) -> Session {
-        let asked = String::new(heap);
-        let expected = String::new(heap);
-        let given = String::new(heap);
         Session {
             mode,
             scenario: None,
-            asked,
-            expected,
-            given,
+            asked: String::new(heap),
+            expected: String::new(heap),
+            given: String::new(heap),
             played: 0,
             different: 0,
         }
@@ -91,12 +88,10 @@ impl Session {
         let Some(head) = words.next() else {
             return Ok(());
         };
-        match head {
-            "walk" | "window" | "name" => self.finish(rt)?,
-            _ => {}
+        if matches!(head, "walk" | "window" | "name") {
+            self.finish(rt)?;
         }
-        self.asked.push_str(line)?;
-        self.asked.push_str("\n")?;
+        writeln!(self.asked, "{line}")?;
         match head {
             "walk" => {
                 self.scenario = Some(Scenario::begin(rt.alloc(), &mut words)?);
@@ -116,8 +111,7 @@ impl Session {
             return Ok(());
         }
         if line.starts_with('=') {
-            self.expected.push_str(line)?;
-            self.expected.push_str("\n")?;
+            writeln!(self.expected, "{line}")?;
             return Ok(());
         }
         self.ask(rt, line)
@@ -135,62 +129,52 @@ fn push_window(text: &mut String, words: &mut SplitWhitespace<'_>) -> anyhow::Re
     let stateless = match words.next() {
         Some("stateless") => true,
         Some("stateful") => false,
-        _ => return Err(anyhow!("no such transport")),
+        _ => bail!("no such transport"),
     };
-    let previous = match words.next() {
-        Some("none") => None,
-        Some(word) => Some(word.parse::<usize>()?),
-        None => return Err(anyhow!("a size is missing")),
+    let previous = match word(words, "a size")? {
+        "none" => None,
+        size => Some(size.parse()?),
     };
     at_end(words)?;
     match window_size(stateless, previous) {
-        Ok(size) => writeln!(text, "= {size}")?,
-        Err(denial) => writeln!(text, "= no {}", denial.number())?,
+        Ok(size) => write!(text, "= {size}")?,
+        Err(denial) => push_denial(text, denial)?,
     }
+    text.push_str("\n")?;
     Ok(())
 }
 
 // Adds the number of the negotiator that the word names.
 fn push_name(text: &mut String, words: &mut SplitWhitespace<'_>) -> anyhow::Result<()> {
-    let Some(name) = words.next() else {
-        return Err(anyhow!("a name is missing"));
-    };
+    let name = word(words, "a name")?;
     at_end(words)?;
-    match algorithm_named(name) {
-        Ok(Algorithm::Noop) => text.push_str("= 0\n")?,
-        Ok(Algorithm::Consecutive) => text.push_str("= 1\n")?,
-        Ok(Algorithm::Skipping) => text.push_str("= 2\n")?,
-        Err(denial) => writeln!(text, "= no {}", denial.number())?,
+    match name.parse::<Algorithm>() {
+        Ok(algorithm) => write!(text, "= {}", u8::from(algorithm))?,
+        Err(denial) => push_denial(text, denial)?,
     }
-    Ok(())
-}
-
-fn run(rt: &HostRuntime) -> anyhow::Result<()> {
-    let mut mode = Mode::Print;
-    for word in env::args(rt)?.skip(1) {
-        if word.as_str() != "replay" {
-            return Err(anyhow!("the argument is replay, or none"));
-        }
-        mode = Mode::Replay;
-    }
-    let mut session = Session::new(rt.alloc(), mode);
-    let mut number = 0u64;
-    for line in BufReader::new(rt.alloc(), rt.stdin())?.lines(rt.alloc()) {
-        let line = line?;
-        number = number.saturating_add(1);
-        if let Err(error) = session.take(rt, line.as_str()) {
-            return Err(anyhow!(format!(in rt.alloc(); "line {number}: {error}")?));
-        }
-    }
-    session.finish(rt)?;
-    if let Mode::Replay = mode {
-        let played = session.played;
-        let different = session.different;
-        println!(rt; "{played} scenarios, {different} differences")?;
-    }
+    text.push_str("\n")?;
     Ok(())
 }
 
 fn main(rt: HostRuntime) -> anyhow::Result<()> {
-    run(&rt)
+    let mut mode = Mode::Print;
+    for word in env::args(&rt)?.skip(1) {
+        ensure!(word.as_str() == "replay", "the argument is replay, or none");
+        mode = Mode::Replay;
+    }
+    let mut session = Session::new(rt.alloc(), mode);
+    let lines = BufReader::new(rt.alloc(), rt.stdin())?.lines(rt.alloc());
+    for (number, line) in (1u64..).zip(lines) {
+        session
+            .take(&rt, line?.as_str())
+            .map_err(|error| anyhow!("line {number}: {error}"))?;
+    }
+    session.finish(&rt)?;
+    if let Mode::Replay = mode {
+        println!(rt;
+            "{} scenarios, {} differences",
+            session.played, session.different
+        )?;
+    }
+    Ok(())
 }

@@ -1,9 +1,13 @@
 // A scenario read line by line: a source's commits, a negotiator with the size of its book, and calls.
-use crate::ids::{id_of, push_hex};
-use anyhow::anyhow;
+use crate::ids::id_of;
+use anyhow::{anyhow, ensure};
 use book::types::Remark;
+use fields::writing::{Unwritten, push_pair};
 use model::{Algorithm, Call};
+use source::ObjectId;
 use std::alloc::Global;
+use std::collections::BTreeSet;
+use std::fmt::Write;
 use std::str::SplitWhitespace;
 
 // What one walk is played on.
@@ -13,35 +17,28 @@ pub(crate) struct Scenario {
     pub rows: usize,
     pub links: usize,
     // The ids that the store has a pair of.
-    stored: Vec<u16>,
+    stored: BTreeSet<u16>,
     pub store: Vec<u8>,
     pub calls: Vec<Call>,
 }
 
-// The next word as a number.
-fn number(words: &mut SplitWhitespace<'_>) -> anyhow::Result<u16> {
-    let Some(word) = words.next() else {
-        return Err(anyhow!("a number is missing"));
-    };
-    Ok(word.parse::<u16>()?)
+// The next word; an error says what is missing where there is none.
+pub(crate) fn word<'a>(words: &mut SplitWhitespace<'a>, what: &str) -> anyhow::Result<&'a str> {
+    words.next().ok_or_else(|| anyhow!("{what} is missing"))
 }
 
-// The next word as a date.
-fn date(words: &mut SplitWhitespace<'_>) -> anyhow::Result<i64> {
-    let Some(word) = words.next() else {
-        return Err(anyhow!("a date is missing"));
-    };
-    Ok(word.parse::<i64>()?)
+// The next word as an id's number, or the size of a book.
+fn number(words: &mut SplitWhitespace<'_>) -> anyhow::Result<u16> {
+    Ok(word(words, "a number")?.parse()?)
 }
 
 // No word may be left on a line.
 pub(crate) fn at_end(words: &mut SplitWhitespace<'_>) -> anyhow::Result<()> {
-    if words.next().is_some() {
-        return Err(anyhow!("a word too many"));
-    }
+    ensure!(words.next().is_none(), "a word too many");
     Ok(())
 }
 
+// The negotiator with the number that the next word is. Not `parse`, which would take `01` too.
 fn algorithm(words: &mut SplitWhitespace<'_>) -> anyhow::Result<Algorithm> {
     match words.next() {
         Some("0") => Ok(Algorithm::Noop),
@@ -51,29 +48,13 @@ fn algorithm(words: &mut SplitWhitespace<'_>) -> anyhow::Result<Algorithm> {
     }
 }
 
-// Adds a field: tag, length, bytes.
-fn push_field(store: &mut Vec<u8>, tag: u8, bytes: &[u8]) -> anyhow::Result<()> {
-    let Ok(len) = u16::try_from(bytes.len()) else {
-        return Err(anyhow!("too many parents"));
-    };
-    store.push(tag)?;
-    store.push((len >> 8) as u8)?;
-    store.push((len & 255) as u8)?;
-    store.extend_from_slice(bytes)?;
-    Ok(())
-}
-
 // The text of a commit with this date and the parents that the words name.
-fn text_of(heap: Global, date: i64, words: &mut SplitWhitespace<'_>) -> anyhow::Result<Vec<u8>> {
-    let mut text = Vec::new(heap);
-    text.extend_from_slice(b"tree ")?;
-    push_hex(&mut text, 0)?;
+fn text_of(heap: Global, date: i64, words: &mut SplitWhitespace<'_>) -> anyhow::Result<String> {
+    let mut text = format!(in heap; "tree {}", ObjectId::NULL)?;
     for word in words {
-        text.extend_from_slice(b"\nparent ")?;
-        push_hex(&mut text, word.parse::<u16>()?)?;
+        write!(text, "\nparent {}", id_of(word.parse()?))?;
     }
-    let last = format!(in heap; "\nauthor a 0 +0000\ncommitter c {date} +0000\n")?;
-    text.extend_from_slice(last.as_bytes())?;
+    write!(text, "\nauthor a 0 +0000\ncommitter c {date} +0000\n")?;
     Ok(text)
 }
 
@@ -84,30 +65,24 @@ impl Scenario {
         let rows = usize::from(number(words)?);
         let links = usize::from(number(words)?);
         at_end(words)?;
-        let stored = Vec::new(heap);
-        let store = Vec::new(heap);
-        let calls = Vec::new(heap);
         Ok(Scenario {
             algorithm,
             rows,
             links,
-            stored,
-            store,
-            calls,
+            stored: BTreeSet::new(heap),
+            store: Vec::new(heap),
+            calls: Vec::new(heap),
         })
     }
 
     // Adds a pair to the store, the first of its id.
     fn hold(&mut self, id: u16, text: &[u8]) -> anyhow::Result<()> {
-        if self.stored.as_slice().contains(&id) {
-            return Err(anyhow!("an id stands twice in the source"));
-        }
-        if !self.calls.is_empty() {
-            return Err(anyhow!("a commit after a call"));
-        }
-        self.stored.push(id)?;
-        push_field(&mut self.store, fields::ID, &id_of(id).bytes)?;
-        push_field(&mut self.store, fields::TEXT, text)
+        ensure!(self.stored.insert(id)?, "an id stands twice in the source");
+        ensure!(self.calls.is_empty(), "a commit after a call");
+        push_pair(&mut self.store, id_of(id), text).map_err(|why| match why {
+            Unwritten::TooLong => anyhow!("too many parents"),
+            Unwritten::NoMemory => anyhow!(why),
+        })
     }
 
     // Takes in one more line: a pair of the source, or a call.
@@ -117,21 +92,25 @@ impl Scenario {
         head: &str,
         words: &mut SplitWhitespace<'_>,
     ) -> anyhow::Result<()> {
-        if head == "commit" {
-            let id = number(words)?;
-            let date = date(words)?;
-            let text = text_of(heap, date, words)?;
-            return self.hold(id, text.as_slice());
+        match head {
+            "commit" => {
+                let id = number(words)?;
+                let date = word(words, "a date")?.parse()?;
+                let text = text_of(heap, date, words)?;
+                self.hold(id, text.as_bytes())
+            }
+            "fail" => {
+                let id = number(words)?;
+                at_end(words)?;
+                self.hold(id, b"no commit")
+            }
+            _ => {
+                let call = call(head, words)?;
+                at_end(words)?;
+                self.calls.push(call)?;
+                Ok(())
+            }
         }
-        if head == "fail" {
-            let id = number(words)?;
-            at_end(words)?;
-            return self.hold(id, b"no commit");
-        }
-        let call = call(head, words)?;
-        at_end(words)?;
-        self.calls.push(call)?;
-        Ok(())
     }
 }
 

@@ -1,4 +1,4 @@
 pub mod RowIds
-pub mod Turns
+pub mod Chains
 pub mod Listings
 pub mod Pasts

@@ -1,6 +1,6 @@
 -- What is on a list, and what is not.
 use Rattle.std.proofs.Common.{◌≡◌, ℕ, Bool, true, false, cond, ◌⊎◌, List, [], ◌∷◌, map, get_or, sym, refl, ap, subst, inl, inr, ⊎_elim}
-use Rattle.std.proofs.lemmas.Bool.{false≢true}
+use Rattle.std.proofs.lemmas.Bool.{false≢true, and_parts, and_from, or_cases, or_left, or_right}
 use Rattle.source.specs.declared.ObjectId.{ObjectId}
 use Rattle.source.specs.Ids.{is_same_id}
 use Rattle.model.specs.Book.{Row, no_row}
@@ -10,7 +10,8 @@ use Rattle.model.specs.declared.Call.TheVariants.{KnownCommon, AddTip, NextHave,
 use Rattle.model.specs.declared.Event.{Event}
 use Rattle.model.specs.declared.Reply.{Reply}
 use Rattle.model.specs.declared.Reply.TheVariants.{Done, Have, NoneLeft, Told, Denied}
-use Rattle.model.proofs.Basics.{same_id_true, same_id_refl}
+use Rattle.book.proofs.Chains.{same_is}
+use Rattle.model.proofs.Basics.{same_id_refl}
 use Rattle.unacknowledged.specs.declared.Commit.{Commit}
 use Rattle.unacknowledged.specs.Listing.{is_accepted, acks, names, named, commit_of, offered, listed}
 use Rattle.unacknowledged.specs.Reports.{Distinct}
@@ -37,7 +38,7 @@ ack_is : (c : Call) (i : ObjectId) → acks c i ≡ true → AckOf c i
 ack_is (KnownCommon j) i e = false≢true e
 ack_is (AddTip j) i e = false≢true e
 ack_is NextHave i e = false≢true e
-ack_is (InCommonWithRemote j) i e = same_id_true j i e
+ack_is (InCommonWithRemote j) i e = same_is j i e
 ack_is (Note j r) i e = false≢true e
 
 acks_of : (c : Call) (i : ObjectId) → AckOf c i → acks c i ≡ true
@@ -47,35 +48,15 @@ acks_of NextHave i e = absurd e
 acks_of (InCommonWithRemote j) i e = subst (λ (x : ObjectId). is_same_id j x ≡ true) e (same_id_refl j)
 acks_of (Note j r) i e = absurd e
 
-both : (a b : Bool) → cond a b false ≡ true → (a ≡ true) × (b ≡ true)
-both true b e = (refl, e)
-both false b e = absurd (false≢true e)
-
-both_of : (a b : Bool) → a ≡ true → b ≡ true → cond a b false ≡ true
-both_of true b x y = y
-both_of false b x y = x
-
-either : (a b : Bool) → cond a true b ≡ true → (a ≡ true) ⊎ (b ≡ true)
-either true b e = inl refl
-either false b e = inr e
-
-or_left : (a b : Bool) → a ≡ true → cond a true b ≡ true
-or_left true b e = refl
-or_left false b e = absurd (false≢true e)
-
-or_right : (a b : Bool) → b ≡ true → cond a true b ≡ true
-or_right true b e = refl
-or_right false b e = e
-
 pub named_acked : (es : List Event) (i : ObjectId) → named es i ≡ true → Acked es i
 named_acked [] i h = absurd (false≢true h)
 named_acked (e ∷ es) i h = ⊎_elim
-    (λ x. let y = both (is_accepted e.gave) (acks e.asked i) x in inl (ack_is e.asked i y.1, accepted_is e.gave y.0))
-    (λ x. inr (named_acked es i x)) (either (names i e) (named es i) h)
+    (λ x. let y = and_parts (is_accepted e.gave) (acks e.asked i) x in inl (ack_is e.asked i y.1, accepted_is e.gave y.0))
+    (λ x. inr (named_acked es i x)) (or_cases (names i e) (named es i) h)
 
 pub acked_named : (es : List Event) (i : ObjectId) → Acked es i → named es i ≡ true
 acked_named [] i w = absurd w
-acked_named (e ∷ es) i (inl w) = or_left (names i e) (named es i) (both_of (is_accepted e.gave) (acks e.asked i) (is_of e.gave w.1) (acks_of e.asked i w.0))
+acked_named (e ∷ es) i (inl w) = or_left (names i e) (named es i) (and_from (is_accepted e.gave) (acks e.asked i) (is_of e.gave w.1) (acks_of e.asked i w.0))
 acked_named (e ∷ es) i (inr w) = or_right (names i e) (named es i) (acked_named es i w)
 
 module _ (all : List Event) (rows : List Row) where

@@ -1,7 +1,6 @@
 -- What holds of a run's past holds of its list.
-use Rattle.std.proofs.Common.{◌≡◌, ℕ, ◌+◌, ◌<◌, ◌≤◌, Bool, true, false, cond, ◌⊎◌, List, [], ◌∷◌, ◌++◌, length, get_or, take, sym, refl, ap, ◌∙◌, subst, inl, inr, ⊎_elim}
+use Rattle.std.proofs.Common.{◌≡◌, ℕ, ◌<◌, Bool, true, false, cond, ◌⊎◌, List, [], ◌∷◌, length, Ok, Err, sym, refl, ap, ◌∙◌, subst, inl, inr, ⊎_elim}
 use Rattle.std.proofs.lemmas.Bool.{both_ways}
-use Rattle.std.proofs.lemmas.List.{take_more, take_all, map_push}
 use Rattle.source.specs.declared.ObjectId.{ObjectId}
 use Rattle.book.specs.Denials.{stops_walk}
 use Rattle.model.specs.Book.{Row, Walk, made, row, flags_at, Source}
@@ -9,7 +8,7 @@ use Rattle.model.specs.Steps.{ok, no}
 use Rattle.model.specs.Consecutive
 use Rattle.model.specs.Past as past
 use Rattle.model.specs.Past.{Any, In, Doing, does, Called, Past, Accepted, TipOf, HaveOf, Tip, Acked, Answered, Has, Reach, Covered}
-use Rattle.model.specs.Laws.{Complete, Once, Answers}
+use Rattle.model.specs.Laws.{Complete, Once}
 use Rattle.model.specs.Steady.{Good, Ext}
 use Rattle.model.specs.Walks.{Plays}
 use Rattle.model.specs.declared.Algorithm.{Algorithm}
@@ -19,19 +18,18 @@ use Rattle.model.specs.declared.Call.TheVariants.{KnownCommon, AddTip, NextHave,
 use Rattle.model.specs.declared.Event.{Event}
 use Rattle.model.specs.declared.Reply.{Reply}
 use Rattle.model.specs.declared.Reply.TheVariants.{Done, Have, NoneLeft, Told, Denied}
+use Rattle.negotiate.specs.Records.{back, Recorded}
+use Rattle.negotiate.proofs.Records.{plays_past}
 use Rattle.model.proofs.Good.{ext_refl, ext_trans, seen_in}
 use Rattle.model.proofs.Keeps.{note_step}
 use Rattle.model.proofs.Runs.{May, push_seen, push_ref, mark_good, next_good}
 use Rattle.model.proofs.Moves.{called_past}
-use Rattle.model.proofs.Laws.{any, past_account}
+use Rattle.model.proofs.Laws.{any, covered_more, past_account}
 use Rattle.model.proofs.Every.{every_past_lawful, every_call_pops}
 use Rattle.unacknowledged.specs.declared.Missing.TheVariants.{LastNone, NoneAfterTip, Going}
-use Rattle.unacknowledged.specs.declared.Standing.{Standing}
-use Rattle.unacknowledged.specs.declared.Standing.TheVariants.{Finished, Unfinished}
-use Rattle.unacknowledged.specs.Judging.{tipped, accepted, replied, after, standing_from, standing_of}
+use Rattle.unacknowledged.specs.Judging.{Standing, tipped, accepted, replied, after, standing_from, standing_of}
 use Rattle.unacknowledged.specs.Listing.{named}
-use Rattle.unacknowledged.specs.declared.Outcome.{Outcome}
-use Rattle.unacknowledged.specs.Reports.{Recorded, told, outcome_of, ids, Distinct, Kept, Reports}
+use Rattle.unacknowledged.specs.Reports.{Told as Outcome, outcome_of, ids, Distinct, Kept, Reports}
 use Rattle.unacknowledged.proofs.Listings.{named_acked, acked_named, listed_has, listed_from, Apart, distinct}
 
 may : (src : Source) (a : Reply) → May (any src) a
@@ -62,11 +60,7 @@ called_ext : (src : Source) (s : Walk) (c : Call) (a : Reply) (t : Walk) → Goo
 called_ext src s c a t G (inl (st, ea, et)) = subst (Ext s) (sym et) (ext_refl s)
 called_ext src s c a t G (inr (ns, r)) = ran_ext src s c a t G r
 
--- the events on top of a past, the latest first
-abbrev back : List Event → List Event → List Event
-back h [] = h
-back h (e ∷ es) = back (e ∷ h) es
-
+-- what some event of a past, or of a run on top of it, is
 in_front : (P : Event → Type 0) (h es : List Event) → Any P h → Any P (back h es)
 in_front P h [] x = x
 in_front P h (e ∷ es) x = in_front P (e ∷ h) es (inr x)
@@ -92,19 +86,11 @@ popped_more n src h s e u p o d k w =
     let x = every_call_pops n src h s e.asked e.gave u p d in
     ⊎_elim (λ y. (x.added k y).1) (λ y. x.stays k (o k y)) w
 
-pub plays_past : (n : Algorithm) (src : Source) (h : List Event) (s : Walk) (es : List Event) (t : Walk) → Past n src h s → Plays (does n src) s es t → Past n src (back h es) t
-plays_past n src h s [] t p q = subst (Past n src h) (sym q) p
-plays_past n src h s (e ∷ es) t p (u, d, r) = plays_past n src (e ∷ h) u es t (called_past (does n src) s u e.asked e.gave h d p) r
-
 plays_popped : (n : Algorithm) (src : Source) (h : List Event) (s : Walk) (es : List Event) (t : Walk) → Past n src h s → Popped h s → Plays (does n src) s es t → Popped (back h es) t
 plays_popped n src h s [] t p o q = subst (Popped h) (sym q) o
 plays_popped n src h s (e ∷ es) t p o (u, d, r) = plays_popped n src (e ∷ h) u es t (called_past (does n src) s u e.asked e.gave h d p) (popped_more n src h s e u p o d) r
 
 -- what no tip comes after stays complete
-covered_more : (src : Source) (e : Event) (h : List Event) (i : ObjectId) → Covered src h i → Covered src (e ∷ h) i
-covered_more src e h i (inl x) = inl (x.0, inr x.1, x.2)
-covered_more src e h i (inr x) = inr (x.0, inr x.1, x.2)
-
 complete_more : (src : Source) (e : Event) (h : List Event) (s t : Walk) → Ext s t → ((k : ℕ) → Answered h k → k < length s.rows)
     → ((i : ObjectId) → TipOf e.asked i → Accepted e.gave → ⊥) → Complete src h s → Complete src (e ∷ h) t
 complete_more src e h s t x l nt C y i (inl w) re = absurd (nt y w.0 w.1)
@@ -113,8 +99,8 @@ complete_more src e h s t x l nt C y i (inr w) re = ⊎_elim
 
 -- a finished run is complete
 abbrev Sure : Source → Standing → List Event → Walk → Type 0
-Sure src Finished h s = Complete src h s
-Sure src (Unfinished m) h s = Unit {0}
+Sure src (Ok x) h s = Complete src h s
+Sure src (Err m) h s = Unit {0}
 
 module _ (src : Source) (h : List Event) (s : Walk) (c : Call) (a : Reply) (u : Walk) (p : Past algorithm.Consecutive src h s) (o : Popped h s) (d : Called (Consecutive.Ran src) s c a u) where
   abbrev e : Event
@@ -124,12 +110,12 @@ module _ (src : Source) (h : List Event) (s : Walk) (c : Call) (a : Reply) (u : 
   range k w = seen_in s k (((past_account src p).0.fine k).pop_seen (o k w))
 
   stays : (st : Standing) → ((i : ObjectId) → TipOf c i → Accepted a → ⊥) → Sure src st h s → Sure src st (e ∷ h) u
-  stays Finished nt C = complete_more src e h s u (called_ext src s c a u (past_account src p).0 d) range nt C
-  stays (Unfinished m) nt C = tt
+  stays (Ok x) nt C = complete_more src e h s u (called_ext src s c a u (past_account src p).0 d) range nt C
+  stays (Err m) nt C = tt
 
   tips : (st : Standing) → Sure src (tipped st) (e ∷ h) u
-  tips Finished = tt
-  tips (Unfinished m) = tt
+  tips (Ok x) = tt
+  tips (Err m) = tt
 
   ends : c ≡ NextHave → a ≡ NoneLeft → Complete src (e ∷ h) u
   ends ec ea =
@@ -148,22 +134,22 @@ takes src h s (Note i r) a u p o d st next nx J = stays src h s (Note i r) a u p
 
 replies : (src : Source) (h : List Event) (s : Walk) (c : Call) (a : Reply) (u : Walk) (p : Past algorithm.Consecutive src h s) (o : Popped h s) (d : Called (Consecutive.Ran src) s c a u)
     (st : Standing) → Sure src st h s → Sure src (replied st c a) (record { asked = c; gave = a } ∷ h) u
-replies src h s c Done u p o d st J = takes src h s c Done u p o d st (Unfinished LastNone) (λ x. tt) J
-replies src h s c (Have k) u p o d st J = takes src h s c (Have k) u p o d st (Unfinished LastNone) (λ x. tt) J
-replies src h s c NoneLeft u p o d st J = takes src h s c NoneLeft u p o d st Finished (λ x. ends src h s c NoneLeft u p o d x refl) J
-replies src h s c (Told b) u p o d st J = takes src h s c (Told b) u p o d st (Unfinished LastNone) (λ x. tt) J
+replies src h s c Done u p o d st J = takes src h s c Done u p o d st (Err LastNone) (λ x. tt) J
+replies src h s c (Have k) u p o d st J = takes src h s c (Have k) u p o d st (Err LastNone) (λ x. tt) J
+replies src h s c NoneLeft u p o d st J = takes src h s c NoneLeft u p o d st (Ok tt) (λ x. ends src h s c NoneLeft u p o d x refl) J
+replies src h s c (Told b) u p o d st J = takes src h s c (Told b) u p o d st (Err LastNone) (λ x. tt) J
 replies src h s c (Denied n) u p o d st J = go (stops_walk n)
   where
-    go : (b : Bool) → Sure src (cond b (Unfinished Going) st) (record { asked = c; gave = Denied n } ∷ h) u
+    go : (b : Bool) → Sure src (cond b (Err Going) st) (record { asked = c; gave = Denied n } ∷ h) u
     go true = tt
     go false = stays src h s c (Denied n) u p o d st (λ i w x. x) J
 
 one : (src : Source) (h : List Event) (s : Walk) (e : Event) (u : Walk) (p : Past algorithm.Consecutive src h s) (o : Popped h s) (d : Called (Consecutive.Ran src) s e.asked e.gave u)
     (st : Standing) → Sure src st h s → Sure src (after st e) (e ∷ h) u
-one src h s e u p o d Finished J = replies src h s e.asked e.gave u p o d Finished J
-one src h s e u p o d (Unfinished LastNone) J = replies src h s e.asked e.gave u p o d (Unfinished LastNone) J
-one src h s e u p o d (Unfinished NoneAfterTip) J = replies src h s e.asked e.gave u p o d (Unfinished NoneAfterTip) J
-one src h s e u p o d (Unfinished Going) J = tt
+one src h s e u p o d (Ok x) J = replies src h s e.asked e.gave u p o d (Ok x) J
+one src h s e u p o d (Err LastNone) J = replies src h s e.asked e.gave u p o d (Err LastNone) J
+one src h s e u p o d (Err NoneAfterTip) J = replies src h s e.asked e.gave u p o d (Err NoneAfterTip) J
+one src h s e u p o d (Err Going) J = tt
 
 whole : (src : Source) (h : List Event) (s : Walk) (es : List Event) (t : Walk) (st : Standing) → Past algorithm.Consecutive src h s → Popped h s → Sure src st h s
     → Plays (Consecutive.Ran src) s es t → Sure src (standing_from st es) (back h es) t
@@ -207,9 +193,9 @@ module _ (src : Source) (a b : ℕ) (es : List Event) (t : Walk) (q : Plays (Con
   covered i (inl x) = inl (x.0, alone _ es x.1, x.2)
   covered i (inr x) = inr (x.0, alone _ es x.1, x.2)
 
-  nothing_lost : standing_of es ≡ Finished → (x i : ObjectId) → Tip es x → Reach src x i → In i (ids es t) ⊎ Covered src es i
+  nothing_lost : standing_of es ≡ Ok tt → (x i : ObjectId) → Tip es x → Reach src x i → In i (ids es t) ⊎ Covered src es i
   nothing_lost f x i tp re =
-      let C : Complete src (back [] es) t = subst (λ (st : Standing). Sure src st (back [] es) t) f (whole src [] (made a b) es t (Unfinished LastNone) start (λ j y. absurd y) tt q) in
+      let C : Complete src (back [] es) t = subst (λ (st : Standing). Sure src st (back [] es) t) f (whole src [] (made a b) es t (Err LastNone) start (λ j y. absurd y) tt q) in
       ⊎_elim (λ z. on z.0 (alone _ es z.1) z.2 (named es i) refl) (λ z. inr (covered i z)) (C x i (in_rest _ [] es tp) re)
     where
       on : (k : ℕ) → Answered es k → (row t k).id ≡ i → (v : Bool) → named es i ≡ v → In i (ids es t) ⊎ Covered src es i
@@ -224,29 +210,9 @@ kept n src a b es t q = record {
   complete = λ e. nothing_lost src a b es t (subst (λ (m : Algorithm). Plays (does m src) (made a b) es t) e q);
 }
 
--- one call more
-plays_more : (ran : Doing) (s : Walk) (es : List Event) (t : Walk) (e : Event) (u : Walk) → Plays ran s es t → Called ran t e.asked e.gave u → Plays ran s (es ++ e ∷ []) u
-plays_more ran s [] t e u p d = (u, subst (λ (x : Walk). Called ran x e.asked e.gave u) p d, refl)
-plays_more ran s (f ∷ es) t e u (v, x, r) d = (v, x, plays_more ran v es t e u r d)
-
-pub recorded_more : (n : Algorithm) (src : Source) (s : Walk) (calls : List Call) (i : ℕ) (d : Call) (es : List Event) (t : Walk) (a : Reply) (u : Walk) (ys : List Event) → i < length calls
-    → Recorded n src s (take i calls) es t → Answers n src t (get_or calls i d) a u → ys ≡ es ++ record { asked = get_or calls i d; gave = a } ∷ [] → Recorded n src s (take (i + 1) calls) ys u
-recorded_more n src s calls i d es t a u ys l R A p =
-    let e : Event = record { asked = get_or calls i d; gave = a } in
-    subst (λ (zs : List Event). Recorded n src s (take (i + 1) calls) zs u) (sym p) (record {
-      asked = map_push (λ (x : Event). x.asked) es e ∙ (ap (λ (zs : List Call). zs ++ get_or calls i d ∷ []) R.asked ∙ sym (take_more calls i d l));
-      plays = plays_more (does n src) s es t e u R.plays A.step;
-    })
-
-pub recorded_none : (n : Algorithm) (src : Source) (s : Walk) (es : List Event) → es ≡ [] → Recorded n src s [] es s
-recorded_none n src s es p = subst (λ (zs : List Event). Recorded n src s [] zs s) (sym p) (record { asked = refl; plays = refl })
-
-pub recorded_all : (n : Algorithm) (src : Source) (s : Walk) (calls : List Call) (i : ℕ) (es : List Event) (t : Walk) → length calls ≤ i → Recorded n src s (take i calls) es t → Recorded n src s calls es t
-recorded_all n src s calls i es t l R = subst (λ (cs : List Call). Recorded n src s cs es t) (take_all i calls l) R
-
 -- what a run from a book's making comes to
 pub reports : (n : Algorithm) (src : Source) (a b : ℕ) (s : Walk) (calls : List Call) (es fs : List Event) (t : Walk) (rows : List Row) (o : Outcome) → s ≡ made a b → Recorded n src s calls es t
-    → fs ≡ es → rows ≡ t.rows → told o ≡ outcome_of fs rows → Reports n src (made a b) calls o
+    → fs ≡ es → rows ≡ t.rows → o ≡ outcome_of fs rows → Reports n src (made a b) calls o
 reports n src a b s calls es fs t rows o es-s R ef er to =
     let Q : Recorded n src (made a b) calls es t = subst (λ (x : Walk). Recorded n src x calls es t) es-s R in
     record {

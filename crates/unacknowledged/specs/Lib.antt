@@ -1,3 +1,4 @@
 pub mod Judging
 pub mod Listing
 pub mod Reports
+pub mod Words

@@ -1,5 +1,6 @@
 -- The haves that no accepted acknowledgement named.
-use Rattle.std.specs.Prelude.{Bool, true, false, cond, List, [], ◌∷◌, get_or, slice_index_or}
+use Rattle.std.specs.Prelude.{Bool, true, false, ◌&&◌, cond, List, [], ◌∷◌, Some, None, Option, get_or, slice_index_or}
+use Rattle.std.specs.List.{list_any}
 use Rattle.source.specs.declared.ObjectId.{ObjectId}
 use Rattle.source.specs.Ids.{is_same_id}
 use Rattle.model.specs.Book.{Row, no_row}
@@ -26,14 +27,21 @@ acks (Note j r) i = false
 
 -- an accepted acknowledgement of i
 abbrev pub names : ObjectId → Event → Bool
-names i e = cond (is_accepted e.gave) (acks e.asked i) false
+names i e = is_accepted e.gave && acks e.asked i
 
 abbrev pub named : List Event → ObjectId → Bool
-named [] i = false
-named (e ∷ es) i = cond (names i e) true (named es i)
+named es i = list_any (names i) es
 
 abbrev pub commit_of : Row → Commit
 commit_of r = record { id = r.id; date = r.date }
+
+-- the commit that a reply offers
+abbrev pub commit_in : List Row → Reply → Option Commit
+commit_in rows Done = None
+commit_in rows (Have k) = Some (commit_of (slice_index_or rows k no_row))
+commit_in rows NoneLeft = None
+commit_in rows (Told b) = None
+commit_in rows (Denied d) = None
 
 -- a have goes before the others, unless it is acknowledged anywhere in the run
 abbrev pub offered : List Event → List Row → Reply → List Commit → List Commit
@@ -66,4 +74,4 @@ abbrev pub is_have : Event → Bool
 is_have e = gives_have e.gave
 
 abbrev pub is_ack : Event → Bool
-is_ack e = cond (asks_ack e.asked) (is_accepted e.gave) false
+is_ack e = asks_ack e.asked && is_accepted e.gave

@@ -2,8 +2,12 @@
 ghost use Rattle.std.specs.Prelude.{◌≡◌, ℕ};
 ghost use Rattle.unacknowledged.specs.Judging.{accepted, replied, after, standing_of};
 
-use crate::{Missing, Standing};
+use crate::Missing;
 use model::{Call, Event, Reply};
+
+// How a run stands: finished once the last accepted next_have answered none, no tip was added after it, and the walk was
+// not stopped; else what is missing.
+type Standing = Result<(), Missing>;
 
 // What an accepted call makes of a run's standing; `next` is what a next_have makes of it.
 fn on_accepted(standing: Standing, next: Standing, call: Call) -> Standing
@@ -11,10 +15,7 @@ fn on_accepted(standing: Standing, next: Standing, call: Call) -> Standing
 {
     match call {
         Call::NextHave => next,
-        Call::AddTip(_) => match standing {
-            Standing::Finished => Standing::Unfinished(Missing::NoneAfterTip),
-            Standing::Unfinished(missing) => Standing::Unfinished(missing),
-        },
+        Call::AddTip(_) => standing.and(Err(Missing::NoneAfterTip)),
         Call::KnownCommon(_) | Call::InCommonWithRemote(_) | Call::Note(_, _) => standing,
     }
 }
@@ -24,20 +25,11 @@ fn on_reply(standing: Standing, event: Event) -> Standing
     ensures { result ≡ replied standing event.asked event.gave }
 {
     match event.gave {
-        Reply::NoneLeft => on_accepted(standing, Standing::Finished, event.asked),
-        Reply::Denied(denial) => {
-            if denial.stops() {
-                Standing::Unfinished(Missing::Going)
-            } else {
-                standing
-            }
-        }
+        Reply::NoneLeft => on_accepted(standing, Ok(()), event.asked),
+        Reply::Denied(denial) if denial.stops() => Err(Missing::Going),
+        Reply::Denied(_) => standing,
         Reply::Done | Reply::Have(_) | Reply::Told(_) => {
-            on_accepted(
-                standing,
-                Standing::Unfinished(Missing::LastNone),
-                event.asked,
-            )
+            on_accepted(standing, Err(Missing::LastNone), event.asked)
         }
     }
 }
@@ -46,18 +38,17 @@ fn on_event(standing: Standing, event: Event) -> Standing
     ensures { result ≡ after standing event }
 {
     match standing {
-        Standing::Unfinished(Missing::Going) => standing,
+        Err(Missing::Going) => standing,
         _ => on_reply(standing, event),
     }
 }
 
 // How a run of calls stands, from what each of them gave back.
-pub fn judge(events: &[Event]) -> Standing
+pub fn judge(events: &[Event]) -> Result<(), Missing>
     ensures { result ≡ standing_of events.now }
 {
-    let mut standing = Standing::Unfinished(Missing::LastNone);
-    for event in events {
-        standing = on_event(standing, *event);
-    }
-    standing
+    events.iter().fold(
+        Err(Missing::LastNone),
+        |standing, event| on_event(standing, *event),
+    )
 }

@@ -1,66 +1,43 @@
 // A run from a book's making, and what it comes to.
-ghost use Rattle.std.specs.Prelude.{◌≡◌, ℕ, IfOk, vec_len};
+ghost use Rattle.std.specs.Prelude.{◌≡◌, ℕ, IfSome, vec_len};
 ghost use Rattle.book.specs.Model.{model};
 ghost use Rattle.model.specs.Book.{made as begun};
 ghost use Rattle.model.specs.View.{rows_of};
 ghost use Rattle.walk.specs.Made.{most_rows};
-ghost use Rattle.unacknowledged.specs.Reports.{Recorded, Reports, told, outcome_of};
+ghost use Rattle.unacknowledged.specs.Reports.{Reports, told, outcome_of};
 
 use crate::judging::judge;
-use crate::listing::{acknowledgements, haves, list, rows};
-use crate::{Outcome, Standing, SwapList};
+use crate::listing::{acknowledgements, haves, list};
+use crate::{NoList, SwapList};
 use book::book::Book;
 use model::{Call, Event};
 use negotiate::Negotiator;
-use negotiate::play::make;
+use negotiate::recording::recorded;
 use source::Source;
-use std::alloc::{AllocError, Global};
+use std::alloc::Global;
 use walk::state::making::Buffers;
 
-// Makes the calls in turn, and keeps each with what it gave back.
-fn recorded<N: Negotiator, S: Source>(
-    heap: Global,
-    walk: &mut N,
-    source: &S,
-    calls: &[Call],
-) -> Result<Vec<Event>, AllocError>
-    ensures { IfOk result (λ v. Recorded N.Negotiator.algorithm (S.Source.meaning source.now) (N.Negotiator.walk walk.old) calls.now v.items (N.Negotiator.walk walk.new)) }
+// The list of a finished run.
+pub fn conclude(heap: Global, events: &[Event], book: &Book) -> Result<SwapList, NoList>
+    ensures { IfSome (told result) (λ o. o ≡ outcome_of events.now (rows_of (model book.now))) }
 {
-    let mut events = Vec::new(heap);
-    for call in calls {
-        let asked = *call;
-        let gave = make(walk, source, asked);
-        events.push(Event { asked, gave })?;
-    }
-    Ok(events)
+    judge(events)?;
+    Ok(SwapList {
+        commits: list(heap, events, book)?,
+        rows: book.row_count(),
+        haves: haves(events),
+        acknowledgements: acknowledgements(events),
+    })
 }
 
-// What a run comes to: its list where it is finished, else what is missing.
-pub fn conclude(heap: Global, events: &[Event], book: &Book) -> Result<Outcome, AllocError>
-    ensures { IfOk result (λ o. told o ≡ outcome_of events.now (rows_of (model book.now))) }
-{
-    match judge(events) {
-        Standing::Unfinished(missing) => Ok(Outcome::Unfinished(missing)),
-        Standing::Finished => {
-            let commits = list(heap, events, book)?;
-            Ok(Outcome::Finished(SwapList {
-                commits,
-                rows: rows(book),
-                haves: haves(events),
-                acknowledgements: acknowledgements(events),
-            }))
-        }
-    }
-}
-
-// Makes a walk of the buffers, makes the calls in turn, and says what the run comes to.
+// Makes a walk of the buffers, makes the calls in turn, and gives the run's list where it is finished.
 pub fn run<N: Negotiator + Drop, S: Source>(
     heap: Global,
     buffers: Buffers,
     source: &S,
     calls: &[Call],
-) -> Result<Outcome, AllocError>
-    ensures { IfOk result (λ o. Reports N.Negotiator.algorithm (S.Source.meaning source.now) (begun (most_rows (vec_len buffers.rows) (vec_len buffers.queue) (vec_len buffers.marking)) (vec_len buffers.links)) calls.now o) }
+) -> Result<SwapList, NoList>
+    ensures { IfSome (told result) (λ o. Reports N.Negotiator.ALGORITHM (S.Source.meaning source.now) (begun (most_rows (vec_len buffers.rows) (vec_len buffers.queue) (vec_len buffers.marking)) (vec_len buffers.links)) calls.now o) }
 {
     let mut walk = N::new(buffers);
     let events = recorded(heap, &mut walk, source, calls)?;

@@ -1,26 +1,23 @@
 -- The parts' equations in the words of the rules.
-use Rattle.std.proofs.Common.{◌≡◌, ℕ, zero, suc, true, eqb, List, [], ◌∷◌, map, get_or, set, ℤ, Some, None, Ok, Err, Option, sym, refl, ap, ◌∙◌, subst, ⊎_elim, arith}
+use Rattle.std.proofs.Common.{Result, ◌≡◌, ℕ, zero, suc, true, eqb, List, [], ◌∷◌, map, get_or, set, Some, None, Ok, Option, sym, refl, ap, ◌∙◌, subst, ⊎_elim, arith}
 use mathlib.Core.Option as mo
 use Rattle.std.proofs.lemmas.Bool.{or_cases, eqb-true}
 use Rattle.std.specs.List.{slice_get}
+use Rattle.std.specs.Result.{ResultUnwrapsOrElse}
 use Rattle.source.specs.declared.ObjectId.{ObjectId}
 use Rattle.source.specs.Ids
 use Rattle.book.specs.declared.types.Denial.{Denial}
 use Rattle.book.specs.declared.types.Metadata.{Metadata}
 use Rattle.book.specs.Rows
 use Rattle.book.specs.Rows.{no_id, metadata}
-use Rattle.book.specs.Model.{Model, blank, flagged, skipped, altered, renumber, reading, metadata_of, no_entry}
-use Rattle.queue.specs.declared.entry.Entry.{Entry}
-use Rattle.queue.specs.Waiting.{enter, head, tail}
-use Rattle.model.specs.declared.Step.{Step}
+use Rattle.book.specs.Model.{Model, flagged, skipped, altered, renumber, reading, metadata_of, no_entry}
 use Rattle.model.specs.Parts.{Looks}
 use Rattle.model.specs.Book.{Source, Flags, Row, Walk, Waits, Marks, no_row, made, row, flags_at, change, put, join, drawn, find, place, place_mark}
 use Rattle.model.specs.Book as book
 use Rattle.model.specs.View.{view_row, unpack, walk_of}
-use Rattle.model.proofs.Looks.{Law, view_at, flag_view, find_none, find_some}
+use Rattle.model.proofs.Looks.{Law, flag_view, find_none, find_some}
 use Rattle.model.proofs.Masks.{or_seen, or_common, or_popped, or_ref, or_both, or_advertised}
-use Rattle.model.proofs.Moves.{head_some, head_none}
-use Rattle.walk.specs.View.{is_mask, row_of, Drew, DrewMark, HasMetadata}
+use Rattle.walk.specs.View.{is_mask, row_of, HasMetadata}
 
 -- a flag byte that the walks set
 pub mask_law : (m : ℕ) → is_mask m ≡ true → (f : ℕ) → Law m (unpack m) f
@@ -44,20 +41,14 @@ pub skip_set : (m m' : Model) (q : Waits) (c k o t : ℕ) → m' ≡ skipped m k
 skip_set m m' q c k o t e = ap (λ (x : Model). walk_of x q c) e
     ∙ ap (λ (rs : List Row). record { rows = rs; links = m.linked; most_rows = m.most_rows; most_links = m.most_links; queue = q; count = c; stopped = m.stopped }) (skip_rows m.entries k o t)
 
-pub metadata_ok : (es : List Rows.Entry) (k : ℕ) (x : Metadata) → Ok x ≡ reading metadata_of (slice_get es k) → HasMetadata (get_or (map view_row es) k no_row) x
-metadata_ok [] k x h = let z : ◌≡◌ {A = ℕ} 0 1 = cc in absurd (omega arith)
-metadata_ok (e ∷ es) zero x h =
-    let q : x ≡ metadata_of e = cc in
-    record { original = ap (λ (y : Metadata). y.original_ttl) q; ttl = ap (λ (y : Metadata). y.ttl) q; flags = ap (λ (y : Metadata). unpack y.flags.bits) q }
-metadata_ok (e ∷ es) (suc k) x h = metadata_ok es k x h
-
-pub metadata_err : (es : List Rows.Entry) (k : ℕ) (d : Denial) → Err d ≡ reading metadata_of (slice_get es k) → HasMetadata (get_or (map view_row es) k no_row) (metadata 0 0 0)
-metadata_err [] k d h = record { original = refl; ttl = refl; flags = refl }
-metadata_err (e ∷ es) zero d h = let z : ◌≡◌ {A = ℕ} 0 1 = cc in absurd (omega arith)
-metadata_err (e ∷ es) (suc k) d h = metadata_err es k d h
-
-pub parent_is : (m : Model) (q : Waits) (c k n : ℕ) (p : ObjectId) → p ≡ get_or (get_or m.entries k no_entry).parents n no_id → p ≡ get_or (row (walk_of m q c) k).parents n no_id
-parent_is m q c k n p e = e ∙ sym (ap (λ (r : Row). get_or r.parents n no_id) (view_at m.entries k))
+pub metadata_is : (D : Metadata → Type 0) (es : List Rows.Entry) (k : ℕ) (r : Result Metadata Denial) (x : Metadata) → ResultUnwrapsOrElse r D x → r ≡ reading metadata_of (slice_get es k)
+    → ((m : Metadata) → D m → HasMetadata no_row m) → HasMetadata (get_or (map view_row es) k no_row) x
+metadata_is D es k r x h e z = go es k (subst (λ (q : Result Metadata Denial). ResultUnwrapsOrElse q D x) e h)
+  where
+    go : (es : List Rows.Entry) (k : ℕ) → ResultUnwrapsOrElse (reading metadata_of (slice_get es k)) D x → HasMetadata (get_or (map view_row es) k no_row) x
+    go [] k h = z x h
+    go (e ∷ es) zero h = rw h (record { original = refl; ttl = refl; flags = refl })
+    go (e ∷ es) (suc k) h = go es k h
 
 -- the row of an id
 pub find_is : (es : List Rows.Entry) (i : ObjectId) (o : Option ℕ) → o ≡ Ids.place i (map (λ (e : Rows.Entry). e.id) es) 0 → o ≡ row_of (find i (map view_row es))
@@ -74,31 +65,6 @@ found_none (mo.some k) h = let z : ◌≡◌ {A = ℕ} 0 1 = cc in absurd (omega
 pub found_some : (o : mo.Option ℕ) (k : ℕ) → Some k ≡ row_of o → o ≡ mo.some k
 found_some mo.none k h = let z : ◌≡◌ {A = ℕ} 0 1 = cc in absurd (omega arith)
 found_some (mo.some j) k h = let q : j ≡ k = cc in ap {B = mo.Option ℕ} mo.some q
-
--- draws
-pub drew_none : (m : Model) (q q' : Waits) (c : ℕ) → None ≡ head q → q' ≡ tail q → Drew (walk_of m q c) None (walk_of m q' c)
-drew_none m q q' c h t = let e = head_none q h in (e, ap (λ (x : Waits). walk_of m x c) (t ∙ ap tail e ∙ sym e))
-
-pub drew_some : (m : Model) (q q' : Waits) (c : ℕ) (e : Entry ℕ) → Some e ≡ head q → q' ≡ tail q → Drew (walk_of m q c) (Some e.value) (walk_of m q' c)
-drew_some m q q' c e h t = (e, tail q, head_some e q h, refl, ap (λ (x : Waits). walk_of m x c) t)
-
-pub drew_mark_none : (q q' : Marks) → None ≡ head q → q' ≡ tail q → DrewMark q None q'
-drew_mark_none q q' h t = let e = head_none q h in (e, t ∙ ap tail e)
-
-pub drew_mark_some : (q q' : Marks) (e : Entry Step) → Some e ≡ head q → q' ≡ tail q → DrewMark q (Some e.value) q'
-drew_mark_some q q' e h t = (e, head_some e q h ∙ ap {B = Marks} (λ x. e ∷ x) (sym t), refl)
-
--- entries with the rows' dates
-pub entered_is : {V : Type 0} (m : Model) (q q' : List (Entry V)) (w : Waits) (c k : ℕ) (d z : ℤ) (v : V) → q' ≡ enter (record { date = z; value = v }) q → z ≡ d → d ≡ (row (walk_of m w c) k).date
-    → q' ≡ enter (record { date = (row (walk_of m w c) k).date; value = v }) q
-entered_is {V} m q q' w c k d z v e f g = e ∙ ap {B = List (Entry V)} (λ x. enter (record { date = x; value = v }) q) (f ∙ g)
-
-pub queue_is : (m : Model) (q q' r : Waits) (c : ℕ) → q' ≡ r → walk_of m q' c ≡ drawn (walk_of m q c) r
-queue_is m q q' r c e = ap (λ (x : Waits). walk_of m x c) e
-
--- the first state
-pub made_is : (m : Model) (q : Waits) (n rows links : ℕ) → m ≡ blank n rows links → q ≡ [] → walk_of m q 0 ≡ made n links
-made_is m q n rows links e f = ap (λ (x : Model). walk_of x q 0) e ∙ ap (λ (y : Waits). walk_of (blank n rows links) y 0) f
 
 -- a lookup's answer, by what was matched
 pub looks_as : (src : Source) (s : Walk) (i : ObjectId) (t : Walk) (o p : Option ℕ) → o ≡ p → Looks src s i t (Ok o) → Looks src s i t (Ok p)

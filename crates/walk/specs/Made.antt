@@ -11,3 +11,10 @@ most_rows rows queue marking = min (min queue marking) (min 65535 rows)
 pub record Returned (w : Walk) (b : Buffers) : Type 0 where
   pub rows : w.most_rows ≤ most_rows (vec_len b.rows) (vec_len b.queue) (vec_len b.marking)
   pub links : vec_len b.links ≡ w.most_links
+
+-- buffers for so many rows and links
+pub record Sized (b : Buffers) (n l : ℕ) : Type 0 where
+  pub rows : vec_len b.rows ≡ n
+  pub links : vec_len b.links ≡ l
+  pub queue : vec_len b.queue ≡ n
+  pub marking : vec_len b.marking ≡ n

@@ -1,12 +1,14 @@
 -- A state as the rules see it, and what they do not see: the room and the numbers of the two queues.
-use Rattle.std.specs.Prelude.{◌≡◌, ℕ, Bool, ◌||◌, [], ◌∷◌, Some, None, Option, ◌==◌}
+use Rattle.std.specs.Prelude.{◌≡◌, ℕ, Bool, true, false, ◌||◌, [], ◌∷◌, Some, None, Ok, Err, Option, Result, ◌==◌}
 use Rattle.std.proofs.Math.Option as model_option
 use Rattle.book.specs.Model.{model}
 use Rattle.queue.specs.declared.entry.Entry.{Entry}
 use Rattle.queue.specs.Queue.{waiting, room, entered}
+use Rattle.book.specs.declared.types.Denial.{Denial}
+use Rattle.book.specs.declared.types.Denial.TheVariants.{Stopped}
 use Rattle.book.specs.declared.types.Metadata.{Metadata}
 use Rattle.model.specs.declared.Step.{Step}
-use Rattle.model.specs.Book.{Row, Walk, Marks, Waits, drawn}
+use Rattle.model.specs.Book.{Flags, Row, Walk, Marks, Waits, no_flags, flags_at, drawn}
 use Rattle.model.specs.View.{unpack, walk_of}
 use Rattle.walk.specs.declared.state.State.{State}
 
@@ -46,6 +48,17 @@ pub record Quiet (s t : State) : Type 0 where
   pub aside : Aside s t
   pub numbered : numbered t ≡ numbered s
 
+-- only the marking queue changes
+pub record OnlyMarks (s t : State) : Type 0 where
+  pub same : view t ≡ view s
+  pub rooms : Roomy s t
+  pub numbered : numbered t ≡ numbered s
+
+-- whether a call is accepted
+abbrev pub Going : Walk → Result (Unit {0}) Denial → Type 0
+Going s (Ok x) = s.stopped ≡ false
+Going s (Err d) = (s.stopped ≡ true) × (d ≡ Stopped)
+
 -- the flag bytes that the walks set
 abbrev pub is_mask : ℕ → Bool
 is_mask m = m == 4 || (m == 8 || (m == 16 || (m == 40 || (m == 12 || m == 72))))
@@ -54,6 +67,11 @@ is_mask m = m == 4 || (m == 8 || (m == 16 || (m == 40 || (m == 12 || m == 72))))
 abbrev pub row_of : model_option.Option ℕ → Option ℕ
 row_of model_option.none = None
 row_of (model_option.some k) = Some k
+
+-- the flags of the row that an id has, or none where it has no row
+abbrev pub flags_of : Walk → model_option.Option ℕ → Flags
+flags_of s model_option.none = no_flags
+flags_of s (model_option.some k) = flags_at s k
 
 -- what a draw takes: the first that waits, or nothing where none does
 abbrev pub Drew : Walk → Option ℕ → Walk → Type 0

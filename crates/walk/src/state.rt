@@ -3,6 +3,7 @@ use book::book::Book;
 use model::Step;
 use queue::queue::Queue;
 
+pub mod drawing;
 pub mod making;
 mod queues;
 mod rows;

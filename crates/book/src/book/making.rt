@@ -3,8 +3,8 @@ ghost use Rattle.std.specs.Prelude.{◌≡◌, ℕ, ◌≤◌, min, replicate, v
 ghost use Rattle.book.specs.Rows.{empty_row, no_id};
 ghost use Rattle.book.specs.Model.{blank, model};
 
-use crate::book::Book;
-use crate::types::{NO_ID, Row};
+use crate::book::{Book, MOST_ROWS};
+use crate::types::Row;
 use source::ObjectId;
 
 impl Book {
@@ -15,8 +15,8 @@ impl Book {
         ensures links { result.links.items ≡ replicate (vec_len links) no_id }
     {
         rows.fill(Row::empty());
-        links.fill(NO_ID);
-        let limit = rows.len().min(65535).min(most);
+        links.fill(ObjectId::NULL);
+        let limit = rows.len().min(MOST_ROWS).min(most);
         Book::over(rows, links, limit)
     }
 
@@ -45,14 +45,6 @@ impl Book {
         ensures lengths { (vec_len result.0 ≡ (model self).slots) × (vec_len result.1 ≡ (model self).most_links) }
         ensures room { (model self).most_rows ≤ min 65535 (vec_len result.0) }
     {
-        let Book {
-            rows,
-            links,
-            limit: _,
-            used: _,
-            linked: _,
-            stopped: _,
-        } = self;
-        (rows, links)
+        (self.rows, self.links)
     }
 }

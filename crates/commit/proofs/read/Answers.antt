@@ -7,9 +7,9 @@ use Rattle.commit.proofs.read.Goals as goal
 pub returns : goal.returns
 returns c =
     let t = c.args.text.now in
-    let e = c.read_at.ensures in
+    let e = c.whole.ensures in
     record {
       means = e;
       takes = λ d ps w. e ∙ reads_written t d ps w;
-      composed = composed t (said c.read_at.result) e;
+      composed = composed t (said c.whole.result) e;
     }

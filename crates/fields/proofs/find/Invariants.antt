@@ -1,9 +1,10 @@
-use Rattle.std.proofs.Common.{◌-◌, length}
+use Rattle.std.proofs.Common.{◌≡◌}
 use Rattle.fields.proofs.Scans.{Scanned}
 use Rattle.fields.proofs.find.Given as goal
 
-abbrev pub invariant-loop-at : goal.invariant-loop-at
-invariant-loop-at l = Scanned l.id.bytes l.store l.at
-
-abbrev pub decreases-loop-at : goal.decreases-loop-at
-decreases-loop-at l = length l.store - l.at
+abbrev pub invariant-loop-pair : goal.invariant-loop-pair
+invariant-loop-pair l =
+    (goal.iterator-loop-pair).can_next l.pair-iterator
+    × (goal.iterator-loop-pair).is_finite l.pair-iterator
+    × (l.pair-iterator.store.now ≡ l.fn.store)
+    × Scanned l.fn.id.bytes l.fn.store l.pair-iterator.at

@@ -1,12 +1,11 @@
-use Rattle.std.proofs.Common.{length, ◌∙◌, arith}
-use Rattle.fields.proofs.Past.{pair_is, within_more}
+use Rattle.std.proofs.Common.{◌≡◌, ◌+◌, arith}
+use Rattle.fields.proofs.Past.{pair_is}
 use Rattle.fields.proofs.first_pair.Goals as goal
 
-pub returns-then-name-eq20 : goal.returns-then-name-eq20
-returns-then-name-eq20 c =
-    let f = c.in-Some.ensures in
-    let e = c.text_pair.ensures in
-    record {
-      pair = e.pair ∙ pair_is c.args.bytes.now c.id_of.result.bytes c.in-Some.name.now c.in-Some.rest.now c.in-Some.tag c.args.at f c.if-tag-eq-ID.true c.if-name-eq20.true c.id_of.ensures;
-      within = within_more c.args.at (length c.args.bytes.now) (length c.in-Some.rest.now) c.text_pair.result (omega (arith, f.left, f.held, c.if-name-eq20.true)) e.within;
-    }
+pub returns-in-Ok-clause-pair : goal.returns-in-Ok-clause-pair
+returns-in-Ok-clause-pair c =
+    let f = c.in_ok-field.ensures in
+    let i = c.in-Ok.ensures in
+    let field = c.in_ok-field.field in
+    let behind : field.rest.at ≡ c.args.tail.at + 23 = omega (arith, f.0, f.1, i.0) in
+    rw (c.text_pair.ensures.pair, behind, f.0) (pair_is c.args.tail.bytes.now c.in-Ok.id.bytes field.body.now field.rest.bytes.now field.tag c.args.tail.at f.2 c.if-field-eq-ID.true i.0 i.1)

@@ -1,29 +1,48 @@
-use Rattle.std.proofs.Common.{◌≡◌, ℕ, ◌-◌, ◌≤◌, Bool, cond, List, length, take, sym, ap, ◌∙◌, arith, le-ltb, true-eqb, false-eqb}
-use Rattle.input.specs.Inputs.{bad, store_then, parsed_within, numbered}
-use Rattle.input.proofs.Scans.{store_start, store_ends, store_cuts, store_last, store_more}
+use Rattle.std.proofs.Common.{◌≡◌, ℕ, ◌≤◌, List, length, take, Some, Ok, Err, ap, ◌∙◌, arith, rules, le-ltb}
+use Rattle.fields.specs.Steps.{GivesField}
+use Rattle.input.specs.Inputs.{heard, bad, store_then, parsed_within, numbered}
+use Rattle.input.proofs.Scans.{Stores, store_ends, store_cuts, store_last, store_more, moved}
 use Rattle.input.proofs.read_within.Goals as goal
 
 short : (most : ℕ) (bs : List ℕ) → length bs ≤ most → store_then (length bs) bs bs 0 ≡ parsed_within most bs
-short most bs le = sym (ap (λ (b : Bool). cond b (bad most) (store_then (length bs) bs bs 0)) (le-ltb most (length bs) le))
+short most bs le = rw (le-ltb most (length bs) le)
 
-pub loop-rest-init : goal.loop-rest-init
-loop-rest-init c = store_start _
-
-pub loop-rest-preserved : goal.loop-rest-preserved
-loop-rest-preserved c = store_more _ _ _ _ _ _ c.loop-rest.invariant c.in-Some.ensures c.if-tag-eq-NEGOTIATOR.false
-
-pub returns-then-is_empty : goal.returns-then-is_empty
-returns-then-is_empty c = store_ends _ _ _ c.loop-rest.invariant (true-eqb _ _ c.if-is_empty.ensures) ∙ short c.args.most c.args.bytes.now (omega arith)
-
-pub returns-in_default : goal.returns-in_default
-returns-in_default c = store_cuts _ _ _ c.loop-rest.invariant (omega (arith, false-eqb _ _ c.if-is_empty.ensures)) c.in_default.ensures ∙ short c.args.most c.args.bytes.now (omega arith)
-
-pub returns-then-tag-eq-NEGOTIATOR : goal.returns-then-tag-eq-NEGOTIATOR
-returns-then-tag-eq-NEGOTIATOR c =
+pub loop-field-preserved : goal.loop-field-preserved
+loop-field-preserved c =
     let bs = c.args.bytes.now in
-    let p = c.loop-rest.place in
-    let z : p - 0 ≡ p = omega arith in
-    c.walk.ensures
-    ∙ ap (λ (k : ℕ). numbered (take k bs) c.in-Some.body.now c.in-Some.tail.now p) z
-    ∙ store_last _ _ _ _ _ _ c.loop-rest.invariant c.in-Some.ensures c.if-tag-eq-NEGOTIATOR.true
+    let s = c.loop-field.field-iterator in
+    let t = c.next.new.self in
+    let f = c.in_ok-field.field in
+    let g : GivesField s (Some (Ok f)) t = rw c.in_ok-field.was at c.in-Some.ensures.steps in
+    (tt, tt, moved (Stores bs) s t f g (store_more bs s.rest.bytes.now f.body.now f.rest.bytes.now s.rest.at f.tag c.loop-field.invariant.2 g.2 c.if-field.false))
+
+pub returns : goal.returns
+returns c =
+    let bs = c.args.bytes.now in
+    let s = c.loop-field.field-iterator in
+    let i = c.loop-field.invariant.2 in
+    let g = c.in-None.ensures.steps.0 in
+    let place : length bs ≡ s.rest.at = omega (arith, i.sums, g) in
+    ap bad place ∙ store_ends bs s.rest.bytes.now s.rest.at i g ∙ short c.args.most bs (omega arith)
+
+pub returns-in_err-field : goal.returns-in_err-field
+returns-in_err-field c =
+    let bs = c.args.bytes.now in
+    let s = c.loop-field.field-iterator in
+    let m = c.in_err-field.field-0.0 in
+    let g : GivesField s (Some (Err m)) c.next.new.self = rw c.in_err-field.was at c.in-Some.ensures.steps in
+    let passed : heard c.from_residual.result ≡ bad m.place = search rules in
+    passed ∙ ap bad (ap (λ x. x.place) g.2) ∙ store_cuts bs s.rest.bytes.now s.rest.at c.loop-field.invariant.2 g.0 g.1 ∙ short c.args.most bs (omega arith)
+
+pub returns-then-field : goal.returns-then-field
+returns-then-field c =
+    let bs = c.args.bytes.now in
+    let s = c.loop-field.field-iterator in
+    let f = c.in_ok-field.field in
+    let body = f.body.now in
+    let rest = f.rest.bytes.now in
+    let g : GivesField s (Some (Ok f)) c.next.new.self = rw c.in_ok-field.was at c.in-Some.ensures.steps in
+    c.walk_from.ensures
+    ∙ ap (λ (k : ℕ). numbered (take k bs) body rest k) g.0
+    ∙ store_last bs s.rest.bytes.now body rest s.rest.at f.tag c.loop-field.invariant.2 g.2 c.if-field.true
     ∙ short c.args.most bs (omega arith)

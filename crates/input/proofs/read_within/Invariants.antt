@@ -1,9 +1,8 @@
-use Rattle.std.proofs.Common.{length}
 use Rattle.input.proofs.Scans.{Stores}
 use Rattle.input.proofs.read_within.Given as goal
 
-abbrev pub invariant-loop-rest : goal.invariant-loop-rest
-invariant-loop-rest l = Stores l.bytes l.rest l.place
-
-abbrev pub decreases-loop-rest : goal.decreases-loop-rest
-decreases-loop-rest l = length l.rest
+abbrev pub invariant-loop-field : goal.invariant-loop-field
+invariant-loop-field l =
+    (goal.iterator-loop-field).can_next l.field-iterator
+    × (goal.iterator-loop-field).is_finite l.field-iterator
+    × Stores l.fn.bytes l.field-iterator.rest.bytes.now l.field-iterator.rest.at

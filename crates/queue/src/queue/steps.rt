@@ -5,19 +5,21 @@ ghost use Rattle.queue.specs.Waiting.{enter, tail, head};
 ghost use Rattle.queue.specs.Queue.{waiting, room, entered};
 
 use crate::entry::{Entry, Place};
-use crate::heap::{add, pull, wiped};
+use crate::heap::{add, pull};
 use crate::queue::Queue;
 
 impl<V: Copy> Queue<V> {
     // A queue over these places, which are emptied whatever they held: nothing waits.
-    pub fn new(places: Vec<Place<V>>, nothing: V) -> Queue<V>
+    pub fn new(mut places: Vec<Place<V>>, nothing: V) -> Queue<V>
         ensures waits { waiting result ≡ [] }
         ensures len { length (waiting result) ≡ 0 }
         ensures room { room result ≡ vec_len places }
         ensures entered { entered result ≡ 0 }
         ensures places { result.places.items ≡ replicate (vec_len places) (empty_place nothing) }
     {
-        Queue::over(wiped(places, Place::empty(nothing)))
+        // `fill` would ask what a clone of a `V` is.
+        places.fill_with(|| Place::empty(nothing));
+        Queue::over(places)
     }
 
     // A queue over these places as they are, in which nothing waits.
@@ -39,12 +41,7 @@ impl<V: Copy> Queue<V> {
         ensures places { result ≡ self.places }
         ensures room { vec_len result ≡ room self }
     {
-        let Queue {
-            places,
-            len: _,
-            next: _,
-        } = self;
-        places
+        self.places
     }
 
     // Nothing waits any more.
@@ -91,10 +88,7 @@ impl<V: Copy> Queue<V> {
         ensures room { room self.new ≡ room self.old }
         ensures entered { entered self.new ≡ entered self.old }
     {
-        if self.len == 0 {
-            return None;
-        }
-        let last = self.len - 1;
+        let last = self.len.checked_sub(1)?;
         let top = pull(self.places.as_mut_slice(), last);
         self.len = last;
         Some(top.entry())

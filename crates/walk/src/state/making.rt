@@ -1,7 +1,7 @@
 // How a state is made of the caller's buffers, and gives them back.
-ghost use Rattle.std.specs.Prelude.{◌≡◌, ℕ, ◌≤◌, min, [], vec_len};
+ghost use Rattle.std.specs.Prelude.{◌≡◌, ℕ, ◌≤◌, min, [], vec_len, IfOk};
 ghost use Rattle.model.specs.Book.{made};
-ghost use Rattle.walk.specs.Made.{most_rows};
+ghost use Rattle.walk.specs.Made.{most_rows, Sized};
 ghost use Rattle.walk.specs.View.{view, marks, numbered, places, mark_numbered, mark_places};
 
 use crate::state::State;
@@ -11,6 +11,7 @@ use model::Step;
 use queue::entry::Place;
 use queue::queue::Queue;
 use source::ObjectId;
+use std::alloc::{AllocError, Global};
 
 // The memory of a walk, which the caller hands over and gets back.
 #[derive(Drop)]
@@ -19,6 +20,20 @@ pub struct Buffers {
     pub links: Vec<ObjectId>,
     pub queue: Vec<Place<usize>>,
     pub marking: Vec<Place<Step>>,
+}
+
+impl Buffers {
+    // The memory for a book of so many rows and links.
+    pub fn sized(heap: Global, rows: usize, links: usize) -> Result<Buffers, AllocError>
+        ensures { IfOk result (λ b. Sized b rows links) }
+    {
+        Ok(Buffers {
+            rows: vec![in heap; Row::empty(); rows]?,
+            links: vec![in heap; ObjectId::NULL; links]?,
+            queue: vec![in heap; Place::empty(0usize); rows]?,
+            marking: vec![in heap; Place::empty(Step::default()); rows]?,
+        })
+    }
 }
 
 impl State {
@@ -38,13 +53,7 @@ impl State {
         let most = queue.len().min(marking.len());
         let book = Book::new(rows, links, most);
         let queue = Queue::new(queue, 0);
-        let marking = Queue::new(
-            marking,
-            Step {
-                row: 0,
-                generation: 0,
-            },
-        );
+        let marking = Queue::new(marking, Step::default());
         State {
             book,
             queue,
@@ -63,7 +72,7 @@ impl State {
             book,
             queue,
             marking,
-            count: _,
+            ..
         } = self;
         let (rows, links) = book.into_buffers();
         Buffers {
@@ -72,5 +81,20 @@ impl State {
             queue: queue.into_places(),
             marking: marking.into_places(),
         }
+    }
+}
+
+#[cfg(test)]
+mod tests {
+    use super::*;
+
+    #[test]
+    fn buffers_are_made(rt: HostRuntime) -> Result<(), AllocError> {
+        let buffers = Buffers::sized(rt.alloc(), 3, 5)?;
+        assert_eq!(rt; buffers.rows.len(), 3);
+        assert_eq!(rt; buffers.links.len(), 5);
+        assert_eq!(rt; buffers.queue.len(), 3);
+        assert_eq!(rt; buffers.marking.len(), 3);
+        Ok(())
     }
 }

@@ -1,7 +1,7 @@
 // What a walk does with its queues and its count.
 ghost use Rattle.std.specs.Prelude.{◌≡◌, ℕ, ◌+◌, ◌-◌, ◌^◌, ◌<◌, ◌≤◌, [], length, ◌==◌};
 ghost use Rattle.model.specs.Book.{place, place_mark, drawn, recount};
-ghost use Rattle.walk.specs.View.{view, marks, numbered, places, mark_numbered, mark_places, Roomy, Aside, Quiet, Drew, DrewMark};
+ghost use Rattle.walk.specs.View.{view, marks, numbered, places, mark_numbered, mark_places, Aside, OnlyMarks, Quiet, Drew, DrewMark};
 
 use crate::state::State;
 use model::Step;
@@ -24,10 +24,7 @@ impl State {
         ensures is { Drew (view self.old) result (view self.new) }
         ensures quiet { Quiet self.old self.new }
     {
-        let Some(entry) = self.queue.draw() else {
-            return None;
-        };
-        Some(entry.value)
+        Some(self.queue.draw()?.value)
     }
 
     // The row enters the marking queue with its date and this generation.
@@ -35,9 +32,8 @@ impl State {
         requires space { length (marks self.old) < mark_places self.old }
         requires number { mark_numbered self.old + 1 < 2 ^ 64 }
         ensures is { marks self.new ≡ place_mark (view self.old).rows (record { row = row; generation = generation }) (marks self.old) }
-        ensures same { view self.new ≡ view self.old }
-        ensures rooms { Roomy self.old self.new }
-        ensures numbers { (numbered self.new ≡ numbered self.old) × (mark_numbered self.new ≤ mark_numbered self.old + 1) }
+        ensures only { OnlyMarks self.old self.new }
+        ensures number { mark_numbered self.new ≤ mark_numbered self.old + 1 }
     {
         let date = self.book.head(row).date;
         self.marking.insert(date, Step { row, generation });
@@ -46,22 +42,17 @@ impl State {
     // Draws from the marking queue.
     pub fn dequeue_mark(&mut self) -> Option<Step>
         ensures is { DrewMark (marks self.old) result (marks self.new) }
-        ensures same { view self.new ≡ view self.old }
-        ensures rooms { Roomy self.old self.new }
-        ensures numbers { (numbered self.new ≡ numbered self.old) × (mark_numbered self.new ≡ mark_numbered self.old) }
+        ensures only { OnlyMarks self.old self.new }
+        ensures number { mark_numbered self.new ≡ mark_numbered self.old }
     {
-        let Some(entry) = self.marking.draw() else {
-            return None;
-        };
-        Some(entry.value)
+        Some(self.marking.draw()?.value)
     }
 
     // Empties the marking queue, in which a denied mark may have left rows.
     pub fn clear_marks(&mut self)
         ensures is { marks self.new ≡ [] }
-        ensures same { view self.new ≡ view self.old }
-        ensures rooms { Roomy self.old self.new }
-        ensures numbers { (numbered self.new ≡ numbered self.old) × (mark_numbered self.new ≡ 0) }
+        ensures only { OnlyMarks self.old self.new }
+        ensures number { mark_numbered self.new ≡ 0 }
     {
         self.marking.clear();
     }

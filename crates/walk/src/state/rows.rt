@@ -9,7 +9,7 @@ ghost use Rattle.model.specs.Steps.{sees, common_at};
 ghost use Rattle.model.specs.Past.{does, Called};
 ghost use Rattle.model.specs.Parts.{Looks, dones};
 ghost use Rattle.model.specs.View.{unpack, rows_of};
-ghost use Rattle.walk.specs.View.{view, Quiet, is_mask, row_of, HasMetadata};
+ghost use Rattle.walk.specs.View.{view, Quiet, Going, is_mask, row_of, flags_of, HasMetadata};
 
 use crate::state::State;
 use book::book::Book;
@@ -52,14 +52,7 @@ impl State {
     pub fn metadata(&self, row: usize) -> Metadata
         ensures { HasMetadata (row_at (view self.now) row) result }
     {
-        match self.book.metadata(row) {
-            Ok(metadata) => metadata,
-            Err(_) => Metadata {
-                original_ttl: 0,
-                ttl: 0,
-                flags: Flags::NONE,
-            },
-        }
+        self.book.metadata(row).unwrap_or_default()
     }
 
     // A row's parent by number.
@@ -69,27 +62,31 @@ impl State {
         self.book.parent_of(row, n)
     }
 
-    // Whether an id has a row with SEEN.
+    // The flags of an id's row, or none where it has no row.
+    pub fn flags_of(&self, id: ObjectId) -> Flags
+        ensures { unpack result.bits ≡ flags_of (view self.now) (find id (view self.now).rows) }
+    {
+        match self.find(id) {
+            Some(row) => self.head(row).flags,
+            None => Flags::NONE,
+        }
+    }
+
+    // Whether an id has a row with SEEN. A question of its own, since the rules name it.
     pub fn has_seen(&self, id: ObjectId) -> bool
         ensures { result ≡ sees (view self.now) id }
     {
-        let Some(row) = self.find(id) else {
-            return false;
-        };
-        self.head(row).flags.intersects(Flags::SEEN)
+        self.flags_of(id).intersects(Flags::SEEN)
     }
 
-    // Whether an id has a row with COMMON.
+    // Whether an id has a row with COMMON. A question of its own, since the rules name it.
     pub fn has_common(&self, id: ObjectId) -> bool
         ensures { result ≡ common_at (view self.now) (find id (view self.now).rows) }
     {
-        let Some(row) = self.find(id) else {
-            return false;
-        };
-        self.head(row).flags.intersects(Flags::COMMON)
+        self.flags_of(id).intersects(Flags::COMMON)
     }
 
-    // Sets the bits of `mask` in a row.
+    // Sets the bits of `mask` in a row. Past the last row nothing changes, as in the rules.
     pub fn set_flags(&mut self, row: usize, mask: Flags)
         requires { is_mask mask.bits ≡ true }
         ensures is { view self.new ≡ change (view self.old) row (join (unpack mask.bits) (flags_at (view self.old) row)) (view self.old).queue (view self.old).count }
@@ -98,7 +95,7 @@ impl State {
         let _ = self.book.set_flags(row, mask);
     }
 
-    // Writes a row's skip numbers.
+    // Writes a row's skip numbers. Past the last row nothing changes, as in the rules.
     pub fn set_skip(&mut self, row: usize, original_ttl: u16, ttl: u16)
         ensures is { view self.new ≡ put (view self.old) row (renumber (row_at (view self.old) row) original_ttl ttl) (view self.old).queue (view self.old).count }
         ensures quiet { Quiet self.old self.new }
@@ -117,6 +114,13 @@ impl State {
         ensures quiet { Quiet self.old self.new }
     {
         self.book.note(source, id, remark)
+    }
+
+    // Refuses a call once a denial has stopped the walk.
+    pub fn going(&self) -> Result<(), Denial>
+        ensures { Going (view self.now) result }
+    {
+        self.book.going()
     }
 
     // Whether a denial has stopped the walk.

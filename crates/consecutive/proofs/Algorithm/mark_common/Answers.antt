@@ -1,6 +1,5 @@
-use Rattle.std.proofs.Common.{◌≡◌, ◌<◌, false, [], length, Some, None, Ok, Err, Result, sym, ap, ◌∙◌, subst}
+use Rattle.std.proofs.Common.{rules, ◌≡◌, ◌<◌, false, [], length, Some, None, Ok, Err, sym, ap, ◌∙◌, subst}
 use Rattle.std.proofs.lemmas.Result.{err_from_is_err_and}
-use Rattle.book.specs.declared.types.Denial.{Denial}
 use Rattle.model.specs.Book.{Flags, Walk, flags_at}
 use Rattle.model.specs.Consecutive as steps
 use Rattle.model.specs.Consecutive.{Mark, Marking, commoned}
@@ -22,7 +21,7 @@ returns-in_err-row g c =
     let l = c.in_err-row.ensures.is in
     let p = err_from_is_err_and c.from_residual.result c.from_residual.ensures.1 in
     record {
-      is = subst (λ (r : Result (Unit {0}) Denial). Mark src (itself c.args.mode) (all c.args.ancestors) c.args.id (walk w) (ended r t)) (sym (p.1 ∙ ap (λ (x : Denial). Err x) p.2)) (mark_err src (itself c.args.mode) (all c.args.ancestors) c.args.id (walk w) t _ l);
+      is = rw (p.1, p.2) (mark_err src (itself c.args.mode) (all c.args.ancestors) c.args.id (walk w) t _ l);
       grows = looks_ext src (walk w) c.args.id t (Err c.in_err-row.field-0.0) l;
     }
 
@@ -78,8 +77,8 @@ spread-requires g c =
     let i = subst (λ (s : Walk). k < length s.rows) (sym c.begin_marking.ensures.same) (lookup_ext src (walk w) c.args.id k t l).1 in
     record { held = (held_quiet b.state u.state 1 c.make_common.ensures.quiet (subst (λ (s : Walk). Ext (walk b) s) (sym c.make_common.ensures.is) (common_ext (walk b) k i)) c.begin_marking.ensures.held).0 }
 
-pub returns-then-is_itself : goal.returns-then-is_itself
-returns-then-is_itself g c =
+pub returns-then-eq : goal.returns-then-eq
+returns-then-eq g c =
     let src = g.S.Source.meaning c.args.source.now in
     let w = c.args.self.now in
     let t = walk c.lookup.new.self in
@@ -90,12 +89,9 @@ returns-then-is_itself g c =
     let u = c.make_common.new.self in
     let e : walk u ≡ commoned t k = c.make_common.ensures.is ∙ ap (λ (s : Walk). commoned s k) c.begin_marking.ensures.same in
     record {
-      is = mark_with src (itself c.args.mode) (all c.args.ancestors) c.args.id (walk w) t (walk u) (marks u) k _ (sym c.if-is_itself.ensures) l common e (c.make_common.ensures.quiet.aside.marks ∙ c.begin_marking.ensures.is) (c.spread.ensures.is 0);
+      is = mark_with src (itself c.args.mode) (all c.args.ancestors) c.args.id (walk w) t (walk u) (marks u) k _ (search rules) l common e (c.make_common.ensures.quiet.aside.marks ∙ c.begin_marking.ensures.is) (c.spread.ensures.is 0);
       grows = ext_trans (walk w) t (walk c.spread.new.self) (looks_ext src (walk w) c.args.id t (Ok (Some k)) l) (ext_trans t (walk u) (walk c.spread.new.self) (subst (λ (s : Walk). Ext t s) (sym e) (common_ext t k (lookup_ext src (walk w) c.args.id k t l).1)) c.spread.ensures.grows);
     }
-
-pub spread-requires-2 : goal.spread-requires-2
-spread-requires-2 g c = record { held = c.begin_marking.ensures.held }
 
 pub returns : goal.returns
 returns g c =
@@ -110,6 +106,6 @@ returns g c =
     let v = walk c.spread-2.new.self in
     let reach = all c.args.ancestors in
     record {
-      is = mark_without src (itself c.args.mode) reach c.args.id (walk w) t (marks b) k _ (sym c.if-is_itself.ensures) l common c.begin_marking.ensures.is (subst (λ (s : Walk). Marking src reach 0 [] (marks b) s (ended c.spread-2.result v)) e (c.spread-2.ensures.is 0));
+      is = mark_without src (itself c.args.mode) reach c.args.id (walk w) t (marks b) k _ (search rules) l common c.begin_marking.ensures.is (subst (λ (s : Walk). Marking src reach 0 [] (marks b) s (ended c.spread-2.result v)) e (c.spread-2.ensures.is 0));
       grows = ext_trans (walk w) t v (looks_ext src (walk w) c.args.id t (Ok (Some k)) l) (subst (λ (s : Walk). Ext s v) e c.spread-2.ensures.grows);
     }

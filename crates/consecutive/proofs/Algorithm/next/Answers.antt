@@ -1,11 +1,9 @@
-use Rattle.std.proofs.Common.{◌≡◌, ℕ, ◌≤◌, length, Err, Option, Result, sym, ap, ◌∙◌, subst, arith}
+use Rattle.std.proofs.Common.{◌≡◌, ◌≤◌, length, ap, arith}
 use Rattle.std.proofs.lemmas.Result.{err_from_is_err_and}
-use Rattle.book.specs.declared.types.Denial.{Denial}
 use Rattle.model.specs.declared.Reply.TheVariants.{Have, Denied}
 use Rattle.model.specs.declared.Turn.{Turn}
 use Rattle.model.specs.Book.{Walk, row}
-use Rattle.model.specs.Consecutive.{Next}
-use Rattle.model.specs.Parts.{Took, haves}
+use Rattle.model.specs.Parts.{Took}
 use Rattle.model.specs.Steady.{Fit, Ext, seen_rows}
 use Rattle.model.proofs.Fits.{taken_long, seens_rows}
 use Rattle.model.proofs.Moves.{next_stops, next_answers, next_goes_on, took_less}
@@ -27,7 +25,7 @@ returns-in_err-pass g c =
     let d = c.in_err-pass.field-0.0 in
     let p = err_from_is_err_and c.from_residual.result c.from_residual.ensures.1 in
     let n = c.loop-turn.invariant (Denied d) z (next_stops src u v r T z d (same u v r T c.draw_row.ensures.grows) c.in_err-pass.ensures.is) in
-    record { is = subst (λ (x : Result (Option ℕ) Denial). Next src (walk c.args.self.now) (haves x) z) (sym (p.1 ∙ ap (λ (x : Denial). Err x) p.2)) n }
+    record { is = rw (p.1, p.2) n }
 
 pub loop-turn-smaller : goal.loop-turn-smaller
 loop-turn-smaller g c =

@@ -1,13 +1,12 @@
-use Rattle.std.proofs.Common.{◌≡◌, List, [], drop, Ok, Err, Result, sym, ap, ◌∙◌, subst, arith}
+use Rattle.std.proofs.Common.{◌≡◌, List, [], drop, Ok, Err, sym, subst, arith}
 use Rattle.std.proofs.lemmas.Result.{err_from_is_err_and}
-use Rattle.book.specs.declared.types.Denial.{Denial}
 use Rattle.std.proofs.lemmas.List.{drop_all}
 use Rattle.source.specs.declared.ObjectId.{ObjectId}
 use Rattle.book.specs.Rows.{no_id}
 use Rattle.model.specs.Steps.{ok, no}
 use Rattle.model.specs.Consecutive as steps
 use Rattle.model.specs.Consecutive.{Pass}
-use Rattle.model.specs.Parts.{ended, PassedOne}
+use Rattle.model.specs.Parts.{PassedOne}
 use Rattle.model.proofs.Good.{ext_trans}
 use Rattle.model.proofs.Moves.{pass_step, pass_stop}
 use Rattle.consecutive.specs.Seen.{walk, parents_at}
@@ -27,7 +26,7 @@ returns-in_err-pass_one g c =
     let h = subst (λ (y : ObjectId). PassedOne src c.args.both y u (Err d) v) pe c.in_err-pass_one.ensures.is in
     let m = i.1 (no d v) (pass_stop src c.args.both (parents_at w c.args.row) c.loop-n.n no_id u v d (omega (arith, c.loop-n-test.true, c.head-count.ensures.parents)) h) in
     record {
-      is = subst (λ (r : Result (Unit {0}) Denial). Pass src c.args.both (parents_at w c.args.row) (walk w) (ended r v)) (sym (p.1 ∙ ap (λ (x : Denial). Err x) p.2)) m;
+      is = rw (p.1, p.2) m;
       grows = ext_trans (walk w) u v i.0 c.pass_one.ensures.grows;
     }
 

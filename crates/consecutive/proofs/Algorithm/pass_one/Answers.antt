@@ -1,7 +1,4 @@
-use Rattle.std.proofs.Common.{Err, Result, sym, ap, ◌∙◌, subst}
 use Rattle.std.proofs.lemmas.Result.{err_from_is_err_and}
-use Rattle.book.specs.declared.types.Denial.{Denial}
-use Rattle.model.specs.Parts.{PassedOne}
 use Rattle.model.proofs.Good.{ext_trans}
 use Rattle.model.proofs.Moves.{pass_one_stuck, pass_one_plain, pass_one_marked}
 use Rattle.consecutive.specs.Seen.{walk}
@@ -14,7 +11,7 @@ returns-in_err-push_unseen g c =
     let v = walk c.push_unseen.new.self in
     let p = err_from_is_err_and c.from_residual.result c.from_residual.ensures.1 in
     record {
-      is = subst (λ (r : Result (Unit {0}) Denial). PassedOne src c.args.both c.args.id w r v) (sym (p.1 ∙ ap (λ (x : Denial). Err x) p.2)) (pass_one_stuck src c.args.both c.args.id w v _ c.in_err-push_unseen.ensures.is);
+      is = rw (p.1, p.2) (pass_one_stuck src c.args.both c.args.id w v _ c.in_err-push_unseen.ensures.is);
       grows = c.push_unseen.ensures.grows;
     }
 

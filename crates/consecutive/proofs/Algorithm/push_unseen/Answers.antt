@@ -1,6 +1,7 @@
-use Rattle.std.proofs.Common.{Bool, sym, refl, subst, inl, inr}
+use Rattle.std.proofs.Common.{sym, subst, inl, inr, ⊎_elim}
+use Rattle.model.specs.Book.{Flags}
 use Rattle.model.specs.Consecutive as steps
-use Rattle.model.specs.Consecutive.{Push, passed_on}
+use Rattle.model.specs.Consecutive.{Push}
 use Rattle.model.specs.Parts.{ended}
 use Rattle.model.proofs.Good.{ext_refl}
 use Rattle.consecutive.specs.Seen.{walk}
@@ -10,17 +11,9 @@ pub returns-then-has_seen : goal.returns-then-has_seen
 returns-then-has_seen g c = record { is = steps.PushUnseen.skips (sym c.if-has_seen.ensures); grows = ext_refl (walk c.args.self.now) }
 
 pub push-requires : goal.push-requires
-push-requires g c = inr (inr refl, sym c.if-has_seen.ensures)
-
-pub returns-then-both : goal.returns-then-both
-returns-then-both g c =
-    let src = g.S.Source.meaning c.args.source.now in
-    record { is = steps.PushUnseen.pushes (sym c.if-has_seen.ensures) (subst (λ (b : Bool). Push src (passed_on b) c.args.id (walk c.args.self.now) (ended c.push.result (walk c.push.new.self))) (sym c.if-both.true) c.push.ensures.is); grows = c.push.ensures.grows }
-
-pub push-requires-2 : goal.push-requires-2
-push-requires-2 g c = inl refl
+push-requires g c = ⊎_elim inl (λ e. inr (inr e, sym c.if-has_seen.ensures)) c.passed_on.ensures.bits
 
 pub returns : goal.returns
 returns g c =
     let src = g.S.Source.meaning c.args.source.now in
-    record { is = steps.PushUnseen.pushes (sym c.if-has_seen.ensures) (subst (λ (b : Bool). Push src (passed_on b) c.args.id (walk c.args.self.now) (ended c.push-2.result (walk c.push-2.new.self))) (sym c.if-both.false) c.push-2.ensures.is); grows = c.push-2.ensures.grows }
+    record { is = steps.PushUnseen.pushes (sym c.if-has_seen.ensures) (subst (λ (m : Flags). Push src m c.args.id (walk c.args.self.now) (ended c.push.result (walk c.push.new.self))) c.passed_on.ensures.is c.push.ensures.is); grows = c.push.ensures.grows }

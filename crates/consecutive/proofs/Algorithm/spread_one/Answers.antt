@@ -1,6 +1,5 @@
-use Rattle.std.proofs.Common.{◌≤◌, Some, None, Ok, Err, Result, sym, ap, ◌∙◌, subst, arith}
+use Rattle.std.proofs.Common.{◌≤◌, Some, None, Ok, Err, sym, ap, ◌∙◌, subst, arith}
 use Rattle.std.proofs.lemmas.Result.{err_from_is_err_and}
-use Rattle.book.specs.declared.types.Denial.{Denial}
 use Rattle.model.specs.Book.{Flags, Marks}
 use Rattle.model.specs.Parts.{SpreadOne}
 use Rattle.model.specs.Steady.{Fit, common_rows}
@@ -23,10 +22,8 @@ returns-in_err-row g c =
     let x = looks_ext src (walk w) c.args.id (walk u) (Err c.in_err-row.field-0.0) l in
     let h = held_quiet w.state u.state 0 c.lookup.ensures.quiet x c.requires.held in
     record {
-      is = subst (λ (r : Result (Unit {0}) Denial). SpreadOne src c.args.generation c.args.id (marks w) (walk w) r (marks u) (walk u)) (sym (p.1 ∙ ap (λ (y : Denial). Err y) p.2)) (spread_err src c.args.generation c.args.id (marks w) (marks u) (walk w) (walk u) _ l);
-      held = h.0;
-      grows = x;
-      pays = h.1;
+      is = rw (p.1, p.2) (spread_err src c.args.generation c.args.id (marks w) (marks u) (walk w) (walk u) _ l);
+      keeps = record { held = h.0; grows = x; pays = h.1 };
     }
 
 pub returns-in_default : goal.returns-in_default
@@ -40,9 +37,7 @@ returns-in_default g c =
     let h = held_quiet w.state u.state 0 q x c.requires.held in
     record {
       is = subst (λ (m : Marks). SpreadOne src c.args.generation c.args.id (marks w) (walk w) (Ok tt) m (walk u)) (sym q.aside.marks) (spread_none src c.args.generation c.args.id (marks w) (walk w) (walk u) l);
-      held = h.0;
-      grows = x;
-      pays = h.1;
+      keeps = record { held = h.0; grows = x; pays = h.1 };
     }
 
 pub returns-then-intersects : goal.returns-then-intersects
@@ -59,9 +54,7 @@ returns-then-intersects g c =
     let h = held_quiet w.state u.state 0 q x c.requires.held in
     record {
       is = subst (λ (m : Marks). SpreadOne src c.args.generation c.args.id (marks w) (walk w) (Ok tt) m t) (sym q.aside.marks) (spread_had src c.args.generation c.args.id (marks w) (walk w) t k l common);
-      held = h.0;
-      grows = x;
-      pays = h.1;
+      keeps = record { held = h.0; grows = x; pays = h.1 };
     }
 
 pub make_common-requires : goal.make_common-requires
@@ -92,7 +85,7 @@ enqueue_mark-requires g c =
     record { space = gain_space src c.args.generation c.args.id w.state c.make_common.new.self.state t k l common c.make_common.ensures.is (c.make_common.ensures.quiet.aside.marks ∙ c.lookup.ensures.quiet.aside.marks) (c.make_common.ensures.quiet.aside.mark_numbered ∙ c.lookup.ensures.quiet.aside.mark_numbered) c.requires.held F; number = gain_number src c.args.generation c.args.id w.state c.make_common.new.self.state t k l common c.make_common.ensures.is (c.make_common.ensures.quiet.aside.marks ∙ c.lookup.ensures.quiet.aside.marks) (c.make_common.ensures.quiet.aside.mark_numbered ∙ c.lookup.ensures.quiet.aside.mark_numbered) c.requires.held F }
 
 pub invariant_of-self : goal.invariant_of-self
-invariant_of-self g c = record { fit = fits_same Fit c.make_common.new.self.state _ c.make_common.new.self.fit c.enqueue_mark.ensures.rooms c.enqueue_mark.ensures.same c.enqueue_mark.ensures.numbers.0 }
+invariant_of-self g c = record { fit = fits_same Fit c.make_common.new.self.state _ c.make_common.new.self.fit c.enqueue_mark.ensures.only.rooms c.enqueue_mark.ensures.only.same c.enqueue_mark.ensures.only.numbered }
 
 pub returns : goal.returns
 returns g c =
@@ -103,8 +96,6 @@ returns g c =
     let l = looks_as src (walk w) c.args.id t _ (Some k) c.in-Some.is c.in_ok-row.ensures.is in
     let common = sym (ap (λ (f : Flags). f.common) c.head.ensures.flags) ∙ sym c.if-intersects.ensures in
     record {
-      is = gain_is src c.args.generation c.args.id w.state c.make_common.new.self.state t k l common c.make_common.ensures.is (c.make_common.ensures.quiet.aside.marks ∙ c.lookup.ensures.quiet.aside.marks) (c.make_common.ensures.quiet.aside.mark_numbered ∙ c.lookup.ensures.quiet.aside.mark_numbered) c.requires.held c.enqueue_mark.new.self c.enqueue_mark.ensures.same c.enqueue_mark.ensures.is c.enqueue_mark.ensures.numbers.1;
-      held = gain_held src c.args.generation c.args.id w.state c.make_common.new.self.state t k l common c.make_common.ensures.is (c.make_common.ensures.quiet.aside.marks ∙ c.lookup.ensures.quiet.aside.marks) (c.make_common.ensures.quiet.aside.mark_numbered ∙ c.lookup.ensures.quiet.aside.mark_numbered) c.requires.held c.enqueue_mark.new.self c.enqueue_mark.ensures.same c.enqueue_mark.ensures.is c.enqueue_mark.ensures.numbers.1 c.requires.young;
-      grows = gain_ext src c.args.generation c.args.id w.state c.make_common.new.self.state t k l common c.make_common.ensures.is (c.make_common.ensures.quiet.aside.marks ∙ c.lookup.ensures.quiet.aside.marks) (c.make_common.ensures.quiet.aside.mark_numbered ∙ c.lookup.ensures.quiet.aside.mark_numbered) c.requires.held c.enqueue_mark.new.self c.enqueue_mark.ensures.same c.enqueue_mark.ensures.is c.enqueue_mark.ensures.numbers.1;
-      pays = gain_pays src c.args.generation c.args.id w.state c.make_common.new.self.state t k l common c.make_common.ensures.is (c.make_common.ensures.quiet.aside.marks ∙ c.lookup.ensures.quiet.aside.marks) (c.make_common.ensures.quiet.aside.mark_numbered ∙ c.lookup.ensures.quiet.aside.mark_numbered) c.requires.held c.enqueue_mark.new.self c.enqueue_mark.ensures.same c.enqueue_mark.ensures.is c.enqueue_mark.ensures.numbers.1;
+      is = gain_is src c.args.generation c.args.id w.state c.make_common.new.self.state t k l common c.make_common.ensures.is (c.make_common.ensures.quiet.aside.marks ∙ c.lookup.ensures.quiet.aside.marks) (c.make_common.ensures.quiet.aside.mark_numbered ∙ c.lookup.ensures.quiet.aside.mark_numbered) c.requires.held c.enqueue_mark.new.self c.enqueue_mark.ensures.only.same c.enqueue_mark.ensures.is c.enqueue_mark.ensures.number;
+      keeps = record { held = gain_held src c.args.generation c.args.id w.state c.make_common.new.self.state t k l common c.make_common.ensures.is (c.make_common.ensures.quiet.aside.marks ∙ c.lookup.ensures.quiet.aside.marks) (c.make_common.ensures.quiet.aside.mark_numbered ∙ c.lookup.ensures.quiet.aside.mark_numbered) c.requires.held c.enqueue_mark.new.self c.enqueue_mark.ensures.only.same c.enqueue_mark.ensures.is c.enqueue_mark.ensures.number c.requires.young; grows = gain_ext src c.args.generation c.args.id w.state c.make_common.new.self.state t k l common c.make_common.ensures.is (c.make_common.ensures.quiet.aside.marks ∙ c.lookup.ensures.quiet.aside.marks) (c.make_common.ensures.quiet.aside.mark_numbered ∙ c.lookup.ensures.quiet.aside.mark_numbered) c.requires.held c.enqueue_mark.new.self c.enqueue_mark.ensures.only.same c.enqueue_mark.ensures.is c.enqueue_mark.ensures.number; pays = gain_pays src c.args.generation c.args.id w.state c.make_common.new.self.state t k l common c.make_common.ensures.is (c.make_common.ensures.quiet.aside.marks ∙ c.lookup.ensures.quiet.aside.marks) (c.make_common.ensures.quiet.aside.mark_numbered ∙ c.lookup.ensures.quiet.aside.mark_numbered) c.requires.held c.enqueue_mark.new.self c.enqueue_mark.ensures.only.same c.enqueue_mark.ensures.is c.enqueue_mark.ensures.number };
     }

@@ -23,9 +23,7 @@ returns-then-not-intersects g c =
     let h = held_aside w.state v.state 0 c.admit.ensures.aside x c.requires.held in
     record {
       is = subst (λ (m : Marks). Visited src (all c.args.ancestors) c.args.step (marks w) (walk w) (Ok tt) m (walk v)) (sym c.admit.ensures.aside.marks) (visit_unseen src (all c.args.ancestors) c.args.step (marks w) (walk w) (walk v) un c.admit.ensures.is);
-      held = h.0;
-      grows = x;
-      pays = h.1;
+      keeps = record { held = h.0; grows = x; pays = h.1 };
     }
 
 pub returns-then-not-reach : goal.returns-then-not-reach
@@ -33,7 +31,7 @@ returns-then-not-reach g c =
     let src = g.S.Source.meaning c.args.source.now in
     let w = c.args.self.now in
     let se : (flags_at (walk w) c.args.step.row).seen ≡ true = sym (ap (λ (f : Flags). f.seen) c.head.ensures.flags) ∙ sym c.if-not-intersects.ensures in
-    record { is = visit_far src (all c.args.ancestors) c.args.step (marks w) (walk w) se (sym c.if-not-reach.ensures); held = c.requires.held; grows = ext_refl (walk w); pays = omega arith }
+    record { is = visit_far src (all c.args.ancestors) c.args.step (marks w) (walk w) se (sym c.if-not-reach.ensures); keeps = record { held = c.requires.held; grows = ext_refl (walk w); pays = omega arith } }
 
 pub returns : goal.returns
 returns g c =
@@ -41,4 +39,4 @@ returns g c =
     let w = c.args.self.now in
     let v = c.spread_all.new.self in
     let se : (flags_at (walk w) c.args.step.row).seen ≡ true = sym (ap (λ (f : Flags). f.seen) c.head.ensures.flags) ∙ sym c.if-not-intersects.ensures in
-    record { is = visit_near src (all c.args.ancestors) c.args.step (marks w) (marks v) (walk w) (walk v) c.spread_all.result se (sym c.if-not-reach.ensures) c.spread_all.ensures.is; held = c.spread_all.ensures.held; grows = c.spread_all.ensures.grows; pays = c.spread_all.ensures.pays }
+    record { is = visit_near src (all c.args.ancestors) c.args.step (marks w) (marks v) (walk w) (walk v) c.spread_all.result se (sym c.if-not-reach.ensures) c.spread_all.ensures.is; keeps = record { held = c.spread_all.ensures.keeps.held; grows = c.spread_all.ensures.keeps.grows; pays = c.spread_all.ensures.keeps.pays } }

@@ -1,8 +1,10 @@
-use Rattle.indexed.proofs.Places.{put, kept}
+use Rattle.std.proofs.Common.{◌≡◌, unwrap_or, rules}
+use Rattle.std.specs.BTreeMap.{get}
+use Rattle.indexed.specs.Places.{by_bytes}
 use Rattle.indexed.proofs.opening.note.Goals as goal
 
-pub returns-in_ok-insert-clause-after : goal.returns-in_ok-insert-clause-after
-returns-in_ok-insert-clause-after c = λ q. put c.args.map.now c.args.spot.id c.args.spot.place c.insert.new.self q c.if-not-earlier.ensures (c.in_ok-insert.ensures.updates.0 q)
-
-pub returns-else-not-earlier-clause-after : goal.returns-else-not-earlier-clause-after
-returns-else-not-earlier-clause-after c = λ q. kept c.args.map.now c.args.spot.id c.args.spot.place q c.if-not-earlier.ensures
+pub returns-clause-after : goal.returns-clause-after
+returns-clause-after c = λ q.
+    let v : c.or_insert.result.now ≡ unwrap_or (get by_bytes c.args.map.now c.args.id) c.args.place = search rules in
+    let u = c.in_ok-map.ensures.update.0 c.or_insert.result.now in
+    rw (← v) (search (rules, u.0 q))

@@ -21,17 +21,17 @@ loop-at-preserved g c =
     let under = l.invariant.0 in (
       omega arith,
       IsPermutation-trans (take n xs) (take n ys) (take n zs) l.invariant.1 (taken ys zs n ((l.at - 1) / 2) l.at (omega arith) (omega arith) le c.swap.ensures.by_index.3),
-      sifts.rise_steps rank order xs ys zs c.args.at l.at up under (omega arith) (c.swap.ensures.after ∙ sym (as_core ys ((l.at - 1) / 2) l.at)) (told ys ((l.at - 1) / 2) l.at _ c.if-sooner.ensures) l.invariant.2,
+      sifts.rise_steps rank order xs ys zs c.args.at l.at up under (omega arith) (c.swap.ensures.after ∙ sym (as_core ys ((l.at - 1) / 2) l.at)) (told ys ((l.at - 1) / 2) l.at _ c.if-not-sooner.ensures) l.invariant.2,
     )
 
-pub returns-else-sooner : goal.returns-else-sooner
-returns-else-sooner g c =
+pub returns-then-not-sooner : goal.returns-then-not-sooner
+returns-then-not-sooner g c =
     let l = c.loop-at in
     let xs = c.args.places.now in
-    record { shuffled = l.invariant.1; heap = risen xs l.places c.args.at (sifts.rise_rests rank order xs l.places c.args.at l.at (told l.places ((l.at - 1) / 2) l.at _ c.if-sooner.ensures) l.invariant.2) }
+    record { shuffled = l.invariant.1; heap = risen xs l.places c.args.at (sifts.rise_rests rank order xs l.places c.args.at l.at (told l.places ((l.at - 1) / 2) l.at _ c.if-not-sooner.ensures) l.invariant.2) }
 
-pub returns-after-loop-at : goal.returns-after-loop-at
-returns-after-loop-at g c =
+pub returns : goal.returns
+returns g c =
     let l = c.loop-at in
     let xs = c.args.places.now in
     record { shuffled = l.invariant.1; heap = risen xs l.places c.args.at (sifts.rise_tops rank order xs l.places c.args.at l.at (omega arith) l.invariant.2) }

@@ -6,4 +6,4 @@ use Rattle.session.proofs.transcript.lines.Given as goal
 
 -- the text so far, and what is still to come, are the whole
 abbrev pub invariant-loop-i : goal.invariant-loop-i
-invariant-loop-i l = string_bytes l.text ++ lines_of (rows_of (model l.book)) (l.i + 1) (drop l.i l.calls) (drop l.i l.replies) ≡ lines_of (rows_of (model l.book)) 1 l.calls l.replies
+invariant-loop-i l = string_bytes l.text ++ lines_of (rows_of (model l.book)) (l.i + 1) (drop l.i l.events) ≡ lines_of (rows_of (model l.book)) 1 l.events

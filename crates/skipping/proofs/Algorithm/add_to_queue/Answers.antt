@@ -1,9 +1,7 @@
-use Rattle.std.proofs.Common.{Some, None, Ok, Err, Result, sym, ap, ◌∙◌, subst}
+use Rattle.std.proofs.Common.{Some, None, Ok, Err, sym, subst}
 use Rattle.std.proofs.lemmas.Result.{err_from_is_err_and}
-use Rattle.book.specs.declared.types.Denial.{Denial}
 use Rattle.model.specs.Book.{Walk}
-use Rattle.model.specs.Skipping.{Add, queued}
-use Rattle.model.specs.Parts.{ended}
+use Rattle.model.specs.Skipping.{queued}
 use Rattle.model.specs.Steady.{Ext}
 use Rattle.model.specs.View.{unpack}
 use Rattle.model.proofs.Fits.{looks_ext, lookup_ext}
@@ -23,7 +21,7 @@ returns-in_err-row g c =
     let l = c.in_err-row.ensures.is in
     let p = err_from_is_err_and c.from_residual.result c.from_residual.ensures.1 in
     record {
-      is = subst (λ (r : Result (Unit {0}) Denial). Add src (unpack c.args.mask.bits) c.args.id s (ended r t)) (sym (p.1 ∙ ap (λ (x : Denial). Err x) p.2)) (add_err src (unpack c.args.mask.bits) c.args.id s t _ l);
+      is = rw (p.1, p.2) (add_err src (unpack c.args.mask.bits) c.args.id s t _ l);
       grows = looks_ext src s c.args.id t (Err c.in_err-row.field-0.0) l;
     }
 

@@ -1,9 +1,6 @@
-use Rattle.std.proofs.Common.{Some, None, Ok, Err, Result, sym, ap, ◌∙◌, subst}
+use Rattle.std.proofs.Common.{Some, None, Ok, Err, sym, ap, ◌∙◌}
 use Rattle.std.proofs.lemmas.Result.{err_from_is_err_and}
-use Rattle.book.specs.declared.types.Denial.{Denial}
 use Rattle.model.specs.Book.{Flags}
-use Rattle.model.specs.Skipping.{Mark}
-use Rattle.model.specs.Parts.{ended}
 use Rattle.model.proofs.Fits.{looks_ext, lookup_ext}
 use Rattle.model.proofs.Good.{ext_trans}
 use Rattle.model.proofs.SkipMoves.{mark_err, mark_none, mark_had}
@@ -20,7 +17,7 @@ returns-in_err-row g c =
     let l = c.in_err-row.ensures.is in
     let p = err_from_is_err_and c.from_residual.result c.from_residual.ensures.1 in
     record {
-      is = subst (λ (r : Result (Unit {0}) Denial). Mark src c.args.id s (ended r t)) (sym (p.1 ∙ ap (λ (x : Denial). Err x) p.2)) (mark_err src c.args.id s t _ l);
+      is = rw (p.1, p.2) (mark_err src c.args.id s t _ l);
       grows = looks_ext src s c.args.id t (Err c.in_err-row.field-0.0) l;
     }
 
@@ -62,8 +59,8 @@ enqueue_mark-requires g c =
     let un = sym (ap (λ (f : Flags). f.common) c.head.ensures.flags) ∙ sym c.if-intersects.ensures in
     let cl = c.clear_marks.ensures in
     record {
-      space = space src c.args.id s.state t.state u.state v v k l un c.make_common.ensures.is cl.is cl.same cl.numbers.1 t.fit c.make_common.ensures.quiet cl.rooms;
-      number = number src c.args.id s.state t.state u.state v v k l un c.make_common.ensures.is cl.is cl.same cl.numbers.1;
+      space = space src c.args.id s.state t.state u.state v v k l un c.make_common.ensures.is cl.is cl.only.same cl.number t.fit c.make_common.ensures.quiet cl.only.rooms;
+      number = number src c.args.id s.state t.state u.state v v k l un c.make_common.ensures.is cl.is cl.only.same cl.number;
     }
 
 pub spread-requires : goal.spread-requires
@@ -79,7 +76,7 @@ spread-requires g c =
     let un = sym (ap (λ (f : Flags). f.common) c.head.ensures.flags) ∙ sym c.if-intersects.ensures in
     let cl = c.clear_marks.ensures in
     let en = c.enqueue_mark.ensures in
-    held src c.args.id s.state t.state u.state v w k l un c.make_common.ensures.is cl.is cl.same cl.numbers.1 en.is en.same t.fit (c.requires k (walk t) l) en.numbers.1
+    held src c.args.id s.state t.state u.state v w k l un c.make_common.ensures.is cl.is cl.only.same cl.number en.is en.only.same t.fit (c.requires k (walk t) l) en.number
 
 pub returns : goal.returns
 returns g c =
@@ -95,6 +92,6 @@ returns g c =
     let cl = c.clear_marks.ensures in
     let en = c.enqueue_mark.ensures in
     record {
-      is = marked src c.args.id s.state t.state u.state v w k l un c.make_common.ensures.is cl.is cl.same cl.numbers.1 en.is en.same _ c.spread.ensures.is;
-      grows = ext_trans (walk s) _ _ (ext src c.args.id s.state t.state u.state v w k l un c.make_common.ensures.is cl.is cl.same cl.numbers.1 en.is en.same) c.spread.ensures.grows;
+      is = marked src c.args.id s.state t.state u.state v w k l un c.make_common.ensures.is cl.is cl.only.same cl.number en.is en.only.same _ c.spread.ensures.is;
+      grows = ext_trans (walk s) _ _ (ext src c.args.id s.state t.state u.state v w k l un c.make_common.ensures.is cl.is cl.only.same cl.number en.is en.only.same) c.spread.ensures.grows;
     }

@@ -1,10 +1,9 @@
-use Rattle.std.proofs.Common.{◌≡◌, Bool, List, [], get_or, drop, Ok, Err, Result, sym, ap, ◌∙◌, subst, arith}
+use Rattle.std.proofs.Common.{◌≡◌, List, [], get_or, drop, Ok, Err, ap, ◌∙◌, subst, arith}
 use Rattle.std.proofs.lemmas.List.{drop_all}
 use Rattle.std.proofs.lemmas.Result.{err_from_is_err_and}
 use Rattle.source.specs.declared.ObjectId.{ObjectId}
-use Rattle.book.specs.declared.types.Denial.{Denial}
 use Rattle.book.specs.Rows.{no_id}
-use Rattle.model.specs.SkipParts.{Pushed, Handed}
+use Rattle.model.specs.SkipParts.{Pushed}
 use Rattle.model.specs.View.{unpack}
 use Rattle.model.proofs.Good.{ext_refl, ext_trans}
 use Rattle.model.proofs.SkipMoves.{hand_start, hand_step, hand_stop, hand_end}
@@ -34,7 +33,7 @@ returns-in_err-pushed g c =
     let h = subst (λ (y : ObjectId). Pushed src (unpack m.flags.bits) m.original_ttl m.ttl y (walk u) (Err d) (walk v)) pe c.in_err-pushed.ensures.is in
     let p = err_from_is_err_and c.from_residual.result c.from_residual.ensures.1 in
     record {
-      is = subst (λ (r : Result Bool Denial). Handed src (unpack m.flags.bits) m.original_ttl m.ttl ps (walk w) r (walk v)) (sym (p.1 ∙ ap (λ (x : Denial). Err x) p.2))
+      is = rw (p.1, p.2)
           (hand_stop src (unpack m.flags.bits) m.original_ttl m.ttl ps (walk w) c.loop-n.pushed n no_id (walk u) (walk v) d (omega (arith, c.loop-n-test.true, c.head-count.ensures.parents)) i.1 h);
       grows = ext_trans (walk w) (walk u) (walk v) i.0 c.push_parent.ensures.grows;
     }

@@ -14,7 +14,7 @@ loop-step-init c = (ext_refl (walk c.args.self.now), c.requires, λ t m. m)
 pub visit-requires : goal.visit-requires
 visit-requires c =
     let d = c.in-Some.ensures in
-    drew_held c.loop-step.self.state c.dequeue_mark.new.self c.in-Some.step d.is d.same d.numbers.1 c.loop-step.invariant.1
+    drew_held c.loop-step.self.state c.dequeue_mark.new.self c.in-Some.step d.is d.only.same d.number c.loop-step.invariant.1
 
 pub loop-step-preserved : goal.loop-step-preserved
 loop-step-preserved c =
@@ -23,9 +23,9 @@ loop-step-preserved c =
     let v = c.visit.new.self in
     let i = c.loop-step.invariant in
     let d = c.in-Some.ensures in (
-      ext_trans (walk w) (walk u) (walk v) i.0 (subst (λ (x : Walk). Ext x (walk v)) d.same c.visit.ensures.grows),
-      c.visit.ensures.held,
-      (λ t m. i.2 t (drew_step u.state c.dequeue_mark.new.self c.in-Some.step d.is d.same t (λ date. c.visit.ensures.is date t m))),
+      ext_trans (walk w) (walk u) (walk v) i.0 (subst (λ (x : Walk). Ext x (walk v)) d.only.same c.visit.ensures.keeps.grows),
+      c.visit.ensures.keeps.held,
+      (λ t m. i.2 t (drew_step u.state c.dequeue_mark.new.self c.in-Some.step d.is d.only.same t (λ date. c.visit.ensures.is date t m))),
     )
 
 pub loop-step-smaller : goal.loop-step-smaller
@@ -34,9 +34,9 @@ loop-step-smaller c =
     let v = c.visit.new.self in
     let d = c.in-Some.ensures in
     let b : common_rows (walk v) ≤ (walk v).most_rows = fits_le SkipFit v.state _ _ v.fit (λ F. commons_rows (walk v) _ _ _ F) in
-    let x : Ext (walk u) (walk v) = subst (λ (y : Walk). Ext y (walk v)) d.same c.visit.ensures.grows in
-    let e = ap common_rows d.same in
-    omega (arith, b, x.most, x.commons, e, c.visit.ensures.pays, drew_less u.state c.dequeue_mark.new.self c.in-Some.step d.is d.same)
+    let x : Ext (walk u) (walk v) = subst (λ (y : Walk). Ext y (walk v)) d.only.same c.visit.ensures.keeps.grows in
+    let e = ap common_rows d.only.same in
+    omega (arith, b, x.most, x.commons, e, c.visit.ensures.keeps.pays, drew_less u.state c.dequeue_mark.new.self c.in-Some.step d.is d.only.same)
 
 pub returns : goal.returns
 returns c =
@@ -44,4 +44,4 @@ returns c =
     let u = c.loop-step.self in
     let i = c.loop-step.invariant in
     let d = c.in_default.ensures in
-    record { is = i.2 _ (drew_last u.state c.dequeue_mark.new.self d.is d.same); grows = subst (λ (x : Walk). Ext (walk w) x) (sym d.same) i.0 }
+    record { is = i.2 _ (drew_last u.state c.dequeue_mark.new.self d.is d.only.same); grows = subst (λ (x : Walk). Ext (walk w) x) (sym d.only.same) i.0 }

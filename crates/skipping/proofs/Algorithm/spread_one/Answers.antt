@@ -13,12 +13,12 @@ use Rattle.skipping.proofs.Algorithm.spread_one.Goals as goal
 pub returns-in_default : goal.returns-in_default
 returns-in_default c =
     let w = c.args.self.now in
-    record { is = one_none c.args.id (marks w) (walk w) (found_none _ c.in_default.ensures); held = c.requires; grows = ext_refl (walk w); pays = omega arith }
+    record { is = one_none c.args.id (marks w) (walk w) (found_none _ c.in_default.ensures); keeps = record { held = c.requires; grows = ext_refl (walk w); pays = omega arith } }
 
 pub returns-then-intersects : goal.returns-then-intersects
 returns-then-intersects c =
     let w = c.args.self.now in
-    record { is = one_had c.args.id (marks w) (walk w) c.in-Some.row (found_some _ _ c.in-Some.ensures) (sym (ap (λ (f : Flags). f.common) c.head.ensures.flags) ∙ sym c.if-intersects.ensures); held = c.requires; grows = ext_refl (walk w); pays = omega arith }
+    record { is = one_had c.args.id (marks w) (walk w) c.in-Some.row (found_some _ _ c.in-Some.ensures) (sym (ap (λ (f : Flags). f.common) c.head.ensures.flags) ∙ sym c.if-intersects.ensures); keeps = record { held = c.requires; grows = ext_refl (walk w); pays = omega arith } }
 
 pub make_common-requires : goal.make_common-requires
 make_common-requires c =
@@ -34,9 +34,7 @@ returns-then-not-intersects c =
     let t = c.make_common.new.self.state in
     record {
       is = unseen_is c.args.id w.state t _ e un c.make_common.ensures.quiet c.make_common.ensures.is c.requires se;
-      held = unseen_keeps c.args.id w.state t _ e un c.make_common.ensures.quiet c.make_common.ensures.is c.requires;
-      grows = gain_ext c.args.id w.state t _ e un c.make_common.ensures.quiet c.make_common.ensures.is c.requires;
-      pays = unseen_pays c.args.id w.state t _ e un c.make_common.ensures.quiet c.make_common.ensures.is c.requires;
+      keeps = record { held = unseen_keeps c.args.id w.state t _ e un c.make_common.ensures.quiet c.make_common.ensures.is c.requires; grows = gain_ext c.args.id w.state t _ e un c.make_common.ensures.quiet c.make_common.ensures.is c.requires; pays = unseen_pays c.args.id w.state t _ e un c.make_common.ensures.quiet c.make_common.ensures.is c.requires };
     }
 
 pub enqueue_mark-requires : goal.enqueue_mark-requires
@@ -53,7 +51,7 @@ enqueue_mark-requires c =
 pub invariant_of-self : goal.invariant_of-self
 invariant_of-self c =
     let t = c.make_common.new.self in
-    record { fit = fits_same SkipFit t.state _ t.fit c.enqueue_mark.ensures.rooms c.enqueue_mark.ensures.same c.enqueue_mark.ensures.numbers.0 }
+    record { fit = fits_same SkipFit t.state _ t.fit c.enqueue_mark.ensures.only.rooms c.enqueue_mark.ensures.only.same c.enqueue_mark.ensures.only.numbered }
 
 pub returns : goal.returns
 returns c =
@@ -65,8 +63,6 @@ returns c =
     let u = c.enqueue_mark.new.self in
     let ens = c.enqueue_mark.ensures in
     record {
-      is = seen_is c.args.id w.state t _ e un c.make_common.ensures.quiet c.make_common.ensures.is c.requires se u ens.same ens.is ens.numbers.1;
-      held = seen_keeps c.args.id w.state t _ e un c.make_common.ensures.quiet c.make_common.ensures.is c.requires se u ens.same ens.is ens.numbers.1;
-      grows = seen_ext c.args.id w.state t _ e un c.make_common.ensures.quiet c.make_common.ensures.is c.requires se u ens.same ens.is ens.numbers.1;
-      pays = seen_pays c.args.id w.state t _ e un c.make_common.ensures.quiet c.make_common.ensures.is c.requires se u ens.same ens.is ens.numbers.1;
+      is = seen_is c.args.id w.state t _ e un c.make_common.ensures.quiet c.make_common.ensures.is c.requires se u ens.only.same ens.is ens.number;
+      keeps = record { held = seen_keeps c.args.id w.state t _ e un c.make_common.ensures.quiet c.make_common.ensures.is c.requires se u ens.only.same ens.is ens.number; grows = seen_ext c.args.id w.state t _ e un c.make_common.ensures.quiet c.make_common.ensures.is c.requires se u ens.only.same ens.is ens.number; pays = seen_pays c.args.id w.state t _ e un c.make_common.ensures.quiet c.make_common.ensures.is c.requires se u ens.only.same ens.is ens.number };
     }

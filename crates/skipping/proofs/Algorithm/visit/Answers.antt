@@ -26,7 +26,5 @@ returns c =
     let x = ext s.state c.args.step c.requires.0 c.requires.1 _ _ c.head.ensures.flags c.unpopped.ensures _ c.lower_count.ensures.quiet c.lower_count.ensures.is in
     record {
       is = visited s.state c.args.step c.requires.0 c.requires.1 _ _ c.head.ensures.flags c.unpopped.ensures _ c.lower_count.ensures.quiet c.lower_count.ensures.is v.state c.spread_all.ensures.is;
-      held = c.spread_all.ensures.held;
-      grows = ext_trans (walk s) _ (walk v) x c.spread_all.ensures.grows;
-      pays = pays s.state c.args.step c.requires.0 c.requires.1 _ _ c.head.ensures.flags c.unpopped.ensures _ c.lower_count.ensures.quiet c.lower_count.ensures.is v.state c.spread_all.ensures.pays;
+      keeps = record { held = c.spread_all.ensures.keeps.held; grows = ext_trans (walk s) _ (walk v) x c.spread_all.ensures.keeps.grows; pays = pays s.state c.args.step c.requires.0 c.requires.1 _ _ c.head.ensures.flags c.unpopped.ensures _ c.lower_count.ensures.quiet c.lower_count.ensures.is v.state c.spread_all.ensures.keeps.pays };
     }

@@ -1,9 +1,9 @@
+use Rattle.std.proofs.Common.{ap, ◌∙◌}
+use Rattle.std.specs.Result.{result_unwrap_or}
 use Rattle.book.specs.Model.{model}
-use Rattle.unacknowledged.proofs.RowIds.{id_some, id_none}
+use Rattle.book.specs.Rows.{no_id}
+use Rattle.unacknowledged.proofs.RowIds.{id_or}
 use Rattle.unacknowledged.proofs.listing.id_at.Goals as goal
 
-pub returns-in-Ok : goal.returns-in-Ok
-returns-in-Ok c = id_some (model c.args.book.now).entries c.args.row c.in-Ok.id c.in-Ok.ensures
-
-pub returns-in-Err : goal.returns-in-Err
-returns-in-Err c = id_none (model c.args.book.now).entries c.args.row c.in-Err.field-0 c.in-Err.ensures
+pub returns : goal.returns
+returns c = c.unwrap_or.ensures ∙ ap (λ x. result_unwrap_or x no_id) c.id.ensures ∙ id_or (model c.args.book.now).entries c.args.row

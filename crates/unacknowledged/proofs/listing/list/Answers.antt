@@ -1,29 +1,20 @@
-use Rattle.std.proofs.Common.{vec_items, sym, refl, ap, ◌∙◌}
+use Rattle.std.proofs.Common.{◌≡◌, IfOk, List, vec_items, subst, rules, tests}
+use Rattle.std.proofs.lemmas.Iterator.{items_from_collect, YieldsList-from_slice}
+use Rattle.std.proofs.lemmas.Iterator.Consumers.{YieldsList-at, YieldsList-from_filter, YieldsList-from_filter_map}
 use Rattle.book.specs.Model.{model}
 use Rattle.model.specs.View.{rows_of}
-use Rattle.unacknowledged.proofs.Turns.{list_more, list_all, adds, passes, rests}
+use Rattle.model.specs.declared.Event.{Event}
+use Rattle.unacknowledged.specs.declared.Commit.{Commit}
+use Rattle.unacknowledged.specs.Listing.{commit_in}
+use Rattle.unacknowledged.proofs.Chains.{kept, chained}
 use Rattle.unacknowledged.proofs.listing.list.Goals as goal
-use Rattle.unacknowledged.proofs.listing.list.Goals.{in-Have+then-not-is_acknowledged+in_ok-push, in-Have+else-not-is_acknowledged, in_default}
-
-pub loop-event-preserved : goal.loop-event-preserved
-loop-event-preserved c =
-    let all = c.args.events.now in
-    let rows = rows_of (model c.args.book.now) in
-    let xs = vec_items c.loop-event.commits in
-    let ys = vec_items c.match-event.commits in
-    elim c.match-event.branch [
-      | in-Have+then-not-is_acknowledged+in_ok-push w ↦
-          list_more all rows all c.loop-event.event-index _ xs ys _ _ c.loop-event-test.true w.in-Have.is
-          (λ more. adds all rows w.in-Have.row w.commit_at-commit.result xs ys more w.commit_at-commit.ensures (sym w.if-not-is_acknowledged.ensures) (ap vec_items w.commits-is ∙ w.in_ok-push.ensures.items))
-          c.loop-event.invariant
-      | in-Have+else-not-is_acknowledged w ↦
-          list_more all rows all c.loop-event.event-index _ xs ys _ _ c.loop-event-test.true w.in-Have.is
-          (λ more. passes all rows w.in-Have.row w.commit_at-commit.result xs ys more w.commit_at-commit.ensures (sym w.if-not-is_acknowledged.ensures) (ap vec_items w.commits-is))
-          c.loop-event.invariant
-      | in_default w ↦
-          list_more all rows all c.loop-event.event-index _ xs ys _ _ c.loop-event-test.true refl
-          (λ more. rests all rows _ xs ys more w.in_default.not-Have (ap vec_items w.commits-is)) c.loop-event.invariant
-    ]
 
 pub returns : goal.returns
-returns c = list_all c.args.events.now (rows_of (model c.args.book.now)) c.args.events.now c.loop-event.event-index _ _ c.loop-event-test.false c.loop-event.invariant
+returns c =
+    let es = c.args.events.now in
+    let rows = rows_of (model c.args.book.now) in
+    subst (λ (cs : List Commit). IfOk c.collect.result (λ v. vec_items v ≡ cs)) (chained es rows es)
+    (items_from_collect _ c.collect.ensures.ran
+    (YieldsList-from_filter _ (kept es rows)
+    (YieldsList-at c.filter.ensures.source (YieldsList-from_filter_map _ (λ (e : Event). commit_in rows e.gave) (YieldsList-from_slice es cc) c.filter_map.ensures.closure (λ x r q k. search (rules, tests))))
+    c.filter.ensures.closure (λ x b q k. search (rules, tests))))

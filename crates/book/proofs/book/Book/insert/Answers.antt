@@ -26,7 +26,7 @@ invariant_of-self c =
       room = omega arith;
       inside = inside_after rows b.used new h x (b.used + 1) (omega arith) e b.linked c.args.count (omega arith) (ap (λ (r : Row). r.first) is) (ap (λ (r : Row). r.count) is) b.inside;
       chained = chained_after rows b.used new h x (b.used + 1) (omega arith) e b.limit (omega arith) (omega arith) hashed bucket.bound (ap next_of is ∙ read_of head_of rows h c.index.result.now 0 (omega arith) c.index.ensures) b.chained b.headed;
-      headed = headed_after rows b.used new h x (b.used + 1) (omega arith) e b.limit (omega arith) (omega arith) hashed bucket.bound (ap head_of is ∙ read_of head_of rows b.used c.index-old.result.now 0 (omega arith) c.index-old.ensures) refl b.headed;
+      headed = headed_after rows b.used new h x (b.used + 1) (omega arith) e b.limit (omega arith) (omega arith) hashed bucket.bound (ap head_of is ∙ read_of head_of rows b.used c.index-2.result.now 0 (omega arith) c.index-2.ensures) refl b.headed;
       distinct = distinct_after rows b.used new h x (b.used + 1) (omega arith) e b.limit (omega arith) (omega arith) hashed bucket.bound (c.requires.new ∙ ap (λ (r : Row). place r.id (map id_of (take b.used rows)) 0) (sym is)) b.distinct;
     }
 

@@ -1,26 +1,18 @@
-use Rattle.std.proofs.Common.{vec_items, ap, arith}
+use Rattle.std.proofs.Common.{sym, refl, ap, ◌∙◌}
 use Rattle.book.specs.declared.types.Metadata.{Metadata}
-use Rattle.book.specs.Rows.{Entry, entry}
-use Rattle.book.specs.Model.{renumber}
-use Rattle.book.proofs.Inserts.{meta_row, meta_kept}
-use Rattle.book.proofs.Readings.{altered_in, altered_past, wrote_in, wrote_past}
+use Rattle.book.specs.Rows.{Entry, metadata}
+use Rattle.book.specs.Model.{model, renumber, rewrite}
+use Rattle.book.proofs.Readings.{read_within, rewritten, unwritten}
 use Rattle.book.proofs.book.Book.set_skip.Goals as goal
 
-pub returns-then-row-self : goal.returns-then-row-self
-returns-then-row-self c =
-    let b = c.args.self.now in
-    record { after = altered_past (renumber c.args.original_ttl c.args.ttl) b c.args.row c.if-row-self.true; value = wrote_past {X = Unit {0}} (λ (e : Entry). tt) b c.args.row c.if-row-self.true }
+pub write-requires : goal.write-requires
+write-requires c = read_within (model c.args.self.now) c.args.row c.in_ok-old.old c.in_ok-old.ensures
 
-pub invariant_of-self : goal.invariant_of-self
-invariant_of-self c =
-    let b = c.args.self.now in
-    let kept = meta_kept (vec_items b.rows) b.limit b.used b.linked c.args.row c.index_mut.result.now c.renumbered.result (omega arith) c.index_mut.ensures.value (omega arith) b.inside b.chained b.headed b.distinct in
-    record { within = omega arith; lent = omega arith; narrow = omega arith; room = omega arith; inside = kept.0; chained = kept.1.0; headed = kept.1.1.0; distinct = kept.1.1.1.0 }
+pub returns-in_err-old-clause-after : goal.returns-in_err-old-clause-after
+returns-in_err-old-clause-after c = unwritten (model c.args.self.now) c.args.row (renumber c.args.original_ttl c.args.ttl) _ c.in_err-old.ensures
 
 pub returns : goal.returns
 returns c =
-    let b = c.args.self.now in
-    record {
-      after = altered_in (renumber c.args.original_ttl c.args.ttl) b c.args.row c.index.result.now c.index_mut.result.now c.renumbered.result (ap (λ (m : Metadata). entry (vec_items b.links) (meta_row c.index.result.now m)) c.renumbered.ensures) c.index.ensures c.index_mut.ensures.value c.if-row-self.false;
-      value = wrote_in {X = Unit {0}} (λ (e : Entry). tt) b c.args.row c.index.result.now c.index.ensures c.if-row-self.false;
-    }
+    let u = rewritten (model c.args.self.now) c.args.row {X = Unit {0}} (renumber c.args.original_ttl c.args.ttl) (λ (e : Entry). tt) c.in_ok-old.old c.renumbered.result tt c.in_ok-old.ensures
+    (λ e q. (ap (λ (d : Metadata). rewrite d e) c.renumbered.ensures ∙ ap (λ (d : Metadata). rewrite (metadata c.args.original_ttl c.args.ttl d.flags.bits) e) (sym q), refl)) in
+    record { after = c.write.ensures ∙ u.0; value = u.1 }

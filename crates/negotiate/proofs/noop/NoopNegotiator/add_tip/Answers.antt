@@ -1,10 +1,6 @@
-use Rattle.std.proofs.Common.{sym, refl, inl, inr}
 use Rattle.model.specs.Noop
-use Rattle.model.proofs.Calls.{answers}
+use Rattle.walk.proofs.Stopped.{asked}
 use Rattle.negotiate.proofs.noop.NoopNegotiator.add_tip.Goals as goal
 
-pub returns-then-is_stopped : goal.returns-then-is_stopped
-returns-then-is_stopped g c = answers _ _ _ _ _ _ (inl (sym c.if-is_stopped.ensures, refl, refl))
-
 pub returns : goal.returns
-returns g c = answers _ _ _ _ _ _ (inr (sym c.if-is_stopped.ensures, Noop.Ran.tips))
+returns g c = asked _ _ _ _ c.going.result c.going.ensures Noop.Ran.tips

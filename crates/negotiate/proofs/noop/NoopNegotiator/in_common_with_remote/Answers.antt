@@ -1,10 +1,12 @@
-use Rattle.std.proofs.Common.{sym, refl, inl, inr}
+use Rattle.std.proofs.Common.{inr}
+use Rattle.std.proofs.lemmas.Result.{err_from_is_err_and}
 use Rattle.model.specs.Noop
 use Rattle.model.proofs.Calls.{answers}
+use Rattle.walk.proofs.Stopped.{refused}
 use Rattle.negotiate.proofs.noop.NoopNegotiator.in_common_with_remote.Goals as goal
 
-pub returns-then-is_stopped : goal.returns-then-is_stopped
-returns-then-is_stopped g c = answers _ _ _ _ _ _ (inl (sym c.if-is_stopped.ensures, refl, refl))
+pub returns-in_err-going : goal.returns-in_err-going
+returns-in_err-going g c = let p = err_from_is_err_and c.from_residual.result c.from_residual.ensures.1 in rw (p.1, p.2) (refused _ _ _ _ _ c.in_err-going.ensures)
 
 pub returns : goal.returns
-returns g c = answers _ _ _ _ _ _ (inr (sym c.if-is_stopped.ensures, Noop.Ran.acks))
+returns g c = answers _ _ _ _ _ _ (inr (c.in_ok-going.ensures, Noop.Ran.acks))

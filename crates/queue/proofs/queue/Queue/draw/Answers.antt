@@ -1,4 +1,4 @@
-use Rattle.std.proofs.Common.{◌≡◌, ◌-◌, List, [], ◌∷◌, map, length, take, Some, vec_items, sym, refl, ap, ◌∙◌, arith}
+use Rattle.std.proofs.Common.{◌≡◌, List, [], ◌∷◌, map, length, take, Some, vec_items, sym, refl, ap, ◌∙◌, arith}
 use Rattle.std.specs.Vec.{with_items}
 use Rattle.queue.specs.declared.entry.Entry.{Entry}
 use Rattle.queue.specs.declared.entry.Place.{Place}
@@ -13,24 +13,26 @@ use Rattle.queue.proofs.queue.Queue.draw.Goals as goal
 pub invariant_of-self : goal.invariant_of-self
 invariant_of-self g c =
     let q = c.args.self.now in
-    let t = pulled q c.pull-top.result c.as_mut_slice.result.now c.pull-top.new.places c.if-self-eq0.false c.as_mut_slice.ensures.value c.pull-top.auto.places c.pull-top.ensures.value c.pull-top.ensures.shuffled c.pull-top.ensures.heap in
-    let k = refill_kept q c.pull-top.new.places (q.len - 1) q.next t.places t.sound in
-    record { within = omega (arith, q.within); few = k.few; heap = k.heap; apart = k.apart; numbered = k.numbered }
+    let last = c.in_ok-last.last in
+    let t = pulled q last c.pull-top.result c.as_mut_slice.result.now c.pull-top.new.places (omega (arith, c.in_ok-last.ensures)) c.as_mut_slice.ensures.value c.pull-top.auto.places c.pull-top.ensures.value c.pull-top.ensures.shuffled c.pull-top.ensures.heap in
+    let k = refill_kept q c.pull-top.new.places last q.next t.places t.sound in
+    record { within = omega (arith, q.within, c.in_ok-last.ensures); few = k.few; heap = k.heap; apart = k.apart; numbered = k.numbered }
 
-pub returns-then-self-eq0 : goal.returns-then-self-eq0
+pub returns-in_err-last : goal.returns-in_err-last
 unfolding waiting
-returns-then-self-eq0 g c =
+returns-in_err-last g c =
     let q = c.args.self.now in
-    let none : waiting q ≡ [] = ap (λ (n : Prim.Native.Nat.ℕ). map entry (ordered (take n (vec_items q.places)))) c.if-self-eq0.true in
-    record { value = sym (ap head none); waits = none ∙ sym (ap tail none); len = ap length (none ∙ sym (ap tail none)) ∙ length_tail (waiting q); room = refl; entered = refl }
+    let z : q.len ≡ 0 = omega (arith, c.in_err-last.ensures) in
+    let none : waiting q ≡ [] = ap (λ (n : Prim.Native.Nat.ℕ). map entry (ordered (take n (vec_items q.places)))) z in
+    record { value = c.from_residual.ensures ∙ sym (ap head none); waits = none ∙ sym (ap tail none); len = ap length (none ∙ sym (ap tail none)) ∙ length_tail (waiting q); room = refl; entered = refl }
 
 pub returns : goal.returns
 unfolding waiting room entered
 returns g c =
     let q = c.args.self.now in
-    let t = pulled q c.pull-top.result c.as_mut_slice.result.now c.pull-top.new.places c.if-self-eq0.false c.as_mut_slice.ensures.value c.pull-top.auto.places c.pull-top.ensures.value c.pull-top.ensures.shuffled c.pull-top.ensures.heap in
+    let last = c.in_ok-last.last in
+    let t = pulled q last c.pull-top.result c.as_mut_slice.result.now c.pull-top.new.places (omega (arith, c.in_ok-last.ensures)) c.as_mut_slice.ensures.value c.pull-top.auto.places c.pull-top.ensures.value c.pull-top.ensures.shuffled c.pull-top.ensures.heap in
     let p = c.pull-top.result in
-    let last = q.len - 1 in
     let all : waiting q ≡ entry p ∷ waits (take last c.pull-top.new.places) = ap (map entry) t.all in
     let now-waits : waits (take last (vec_items (with_items q.places c.pull-top.new.places))) ≡ tail (waiting q) = ap (λ (ys : List (Place g.row.V.Denot)). waits (take last ys)) t.places ∙ sym (ap tail all) in
     record {

@@ -1,17 +1,19 @@
-use Rattle.std.proofs.Common.{sym, refl, inl, inr}
+use Rattle.std.proofs.Common.{inr}
+use Rattle.std.proofs.lemmas.Result.{err_from_is_err_and}
 use Rattle.model.specs.Book.{ADVERTISED_AND_SEEN}
+use Rattle.walk.proofs.Stopped.{refused}
 use Rattle.model.proofs.Calls.{answers}
 use Rattle.model.proofs.SkipMoves.{known_ran}
 use Rattle.skipping.specs.Seen.{walk}
 use Rattle.skipping.proofs.Adding.{unseen_is}
 use Rattle.skipping.proofs.calls.AlgorithmNegotiator.known_common.Goals as goal
 
-pub returns-then-is_stopped : goal.returns-then-is_stopped
-returns-then-is_stopped g c = answers _ _ _ _ _ _ (inl (sym c.if-is_stopped.ensures, refl, refl))
+pub returns-in_err-going : goal.returns-in_err-going
+returns-in_err-going g c = let p = err_from_is_err_and c.from_residual.result c.from_residual.ensures.1 in rw (p.1, p.2) (refused _ _ _ _ _ c.in_err-going.ensures)
 
 pub returns : goal.returns
 returns g c =
     let src = g.S.Source.meaning c.args.source.now in
     let s = walk c.args.self.now in
-    let t = walk c.add_advertised.new.self in
-    answers _ _ _ _ _ _ (inr (sym c.if-is_stopped.ensures, known_ran src c.args.id s t c.add_advertised.result (unseen_is src ADVERTISED_AND_SEEN c.args.id s c.add_advertised.result t c.add_advertised.ensures)))
+    let t = walk c.add_unseen.new.self in
+    answers _ _ _ _ _ _ (inr (c.in_ok-going.ensures, known_ran src c.args.id s t c.add_unseen.result (unseen_is src ADVERTISED_AND_SEEN c.args.id s c.add_unseen.result t c.add_unseen.ensures)))

@@ -1,0 +1,27 @@
+// Calls played in turn and kept, in memory that grows with them.
+ghost use Rattle.std.specs.Prelude.{IfOk};
+ghost use Rattle.negotiate.specs.Records.{Recorded};
+
+use crate::Negotiator;
+use crate::play::make;
+use model::{Call, Event};
+use source::Source;
+use std::alloc::{AllocError, Global};
+
+// Makes the calls in turn, and keeps each with what it gave back.
+pub fn recorded<N: Negotiator, S: Source>(
+    heap: Global,
+    walk: &mut N,
+    source: &S,
+    calls: &[Call],
+) -> Result<Vec<Event>, AllocError>
+    ensures { IfOk result (λ v. Recorded N.Negotiator.ALGORITHM (S.Source.meaning source.now) (N.Negotiator.walk walk.old) calls.now v.items (N.Negotiator.walk walk.new)) }
+{
+    let mut events = Vec::new(heap);
+    for call in calls {
+        let asked = *call;
+        let gave = make(walk, source, asked);
+        events.push(Event { asked, gave })?;
+    }
+    Ok(events)
+}

@@ -1,6 +1,0 @@
-use Rattle.std.proofs.Common.{◌≡◌, ◌+◌, ◌≤◌, drop, count_by}
-use Rattle.unacknowledged.specs.Listing.{is_have}
-use Rattle.unacknowledged.proofs.listing.haves.Given as goal
-
-abbrev pub invariant-loop-event : goal.invariant-loop-event
-invariant-loop-event l = (l.count + count_by is_have (drop l.event-index l.events) ≡ count_by is_have l.events) × (l.count ≤ l.event-index)

@@ -1,7 +1,0 @@
-use Rattle.std.proofs.Common.{take, vec_items}
-use Rattle.unacknowledged.specs.Reports.{Recorded}
-use Rattle.unacknowledged.proofs.running.recorded.Given as goal
-
-abbrev pub invariant-loop-call : goal.invariant-loop-call
-invariant-loop-call g l =
-    Recorded g.N.Negotiator.algorithm (g.S.Source.meaning l.source) (g.N.Negotiator.walk l.initial.walk) (take l.call-index l.calls) (vec_items l.events) (g.N.Negotiator.walk l.walk)

@@ -1,7 +1,0 @@
-use Rattle.std.proofs.Common.{refl}
-use Rattle.walk.specs.View.{view}
-use Rattle.walk.proofs.state.State.is_spent.Goals as goal
-
-pub returns : goal.returns
-unfolding view
-returns c = refl
