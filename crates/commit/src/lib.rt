@@ -21,7 +21,8 @@ pub struct Misfit {
 // The bytes of a parent's line: the word `parent`, a space, a name and a line feed.
 pub const PARENT_LINE: usize = 48;
 
-// A commit's date, and its parents' lines, of `PARENT_LINE` bytes each.
+// A commit's date, and its parents' lines, of `PARENT_LINE` bytes each: a borrowed part of the text, so that a question
+// allocates nothing.
 #[derive(Clone, Copy, Debug)]
 pub struct Commit<'a> {
     pub date: i64,

@@ -8,7 +8,8 @@ use model::{Call, Event};
 use source::Source;
 use std::alloc::{AllocError, Global};
 
-// Makes the calls in turn, and keeps each with what it gave back.
+// Makes the calls in turn, and keeps each with what it gave back. The allocator comes first here as in every call that
+// may want memory: it is lent to the call, and is no part of what is asked.
 pub fn recorded<N: Negotiator, S: Source>(
     heap: Global,
     walk: &mut N,

@@ -13,8 +13,8 @@ use book::types::{Denial, Flags, Metadata};
 use source::{ObjectId, Source};
 use walk::state::drawing::Drawn;
 
-// The original and the running skip number that a drawn row hands on to its parents. A pair: it is what `Book::skip` gives
-// and `set_skip` takes.
+// The original and the running skip number that a drawn row hands on to its parents, in the order in which `set_skip`
+// takes them.
 fn hand_on(original_ttl: u16, ttl: u16) -> (u16, u16)
     ensures { (result.0 ≡ new_original original_ttl ttl) × (result.1 ≡ new_ttl original_ttl ttl) }
 {

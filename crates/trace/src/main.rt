@@ -17,6 +17,7 @@ mod ids;
 mod reading;
 mod running;
 
+// What is done with the answers: two cases with a line each, and no closures.
 #[derive(Clone, Copy)]
 enum Mode {
     Print,

@@ -35,7 +35,7 @@ fn push_reply(text: &mut String, book: &Book, reply: Reply) -> anyhow::Result<()
 }
 
 // Adds the rows that are new, or whose flags or skip numbers are not as they were shown last. By number, since a book is
-// read by number.
+// read by number; what was shown is kept in the order of its rows.
 fn push_changes(text: &mut String, book: &Book, shown: &mut Vec<Metadata>) -> anyhow::Result<()> {
     for row in 0..book.row_count() {
         let (Ok(id), Ok(metadata)) = (book.id(row), book.metadata(row)) else {
