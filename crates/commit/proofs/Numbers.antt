@@ -1,12 +1,8 @@
 -- Digits in loops, and words taken apart.
-use Rattle.std.proofs.Common.{◌≡◌, ℕ, zero, suc, ◌+◌, ◌-◌, ◌*◌, ◌^◌, ◌<◌, ◌≤◌, Bool, true, cond, ◌&&◌, leb, List, [], ◌∷◌, length, get_or, drop, Some, None, sym, refl, ap, subst, ⊎_elim, ◌∙◌, pow-suc, add-one, arith, ext_get_or, le-leb}
+use Rattle.std.proofs.Common.{◌≡◌, ℕ, zero, suc, ◌+◌, ◌-◌, ◌*◌, ◌^◌, ◌<◌, ◌≤◌, Bool, true, cond, ◌&&◌, leb, List, [], ◌∷◌, length, get_or, drop, Some, None, sym, refl, ap, ◌∙◌, pow-suc, add-one, arith, ext_get_or, le-leb}
 use native.Mathlib.Nat.{pow-le-pow_right}
-use Rattle.std.proofs.Math.Nat.{eq-or-lt_of_le}
 use Rattle.std.proofs.lemmas.List.{at_drop_more, drop_all}
 use Rattle.std.proofs.lemmas.Bool.Decides.{nat_tests}
-use Rattle.std.specs.Fn.{Called}
-use Rattle.std.specs.Array.{IsFromFnResultFrom}
-use denote.Param.Members.{Mut}
 use Rattle.commit.specs.Layout.{digitb, all_digits, number, amount_of, hex_bytes, hex_value}
 
 digit_front : (d : ℕ) (b : Bool) → true ≡ (digitb d && b) → (48 ≤ d) × (d ≤ 57) × (true ≡ b)
@@ -55,16 +51,6 @@ hex_at (a ∷ b ∷ ds) (suc i) d lt =
     hex_at ds i d (omega arith)
     ∙ ap (λ (m : ℕ). hex_value (get_or (a ∷ b ∷ ds) m 0) * 16 + hex_value (get_or (a ∷ b ∷ ds) (suc (suc (2 * i + 1))) 0)) two
     ∙ ap (λ (m : ℕ). hex_value (get_or (a ∷ b ∷ ds) (2 * suc i) 0) * 16 + hex_value (get_or (a ∷ b ∷ ds) m 0)) one
-
--- the elements of an array that a closure made, where it is the same at each call
-pub from_fn_all : {F : Type 0} (g : Mut F (ℕ × Unit {0}) ℕ) (f : F) (h : ℕ → ℕ) → ((i y : ℕ) (q : F) → Called g f (i, tt) y q → (q ≡ f) × (y ≡ h i)) → (ys : List ℕ) (i n : ℕ) (p : F) → p ≡ f → IsFromFnResultFrom g p ys i n → (k : ℕ) → i ≤ k → k < i + n → get_or ys k 0 ≡ h k
-from_fn_all g f h each ys i zero p is r k le lt = absurd (omega arith)
-from_fn_all g f h each ys i (suc n) p is r k le lt =
-    let now = each i r.1 r.0 (subst (λ (s : _). Called g s (i, tt) r.1 r.0) is r.3) in
-    ⊎_elim
-    (λ (e : i ≡ k). ap (λ (j : ℕ). get_or ys j 0) (sym e) ∙ r.2.1 0 ∙ now.1 ∙ ap h e)
-    (λ (l : i < k). from_fn_all g f h each ys (i + 1) n r.0 now.0 r.4 k (omega arith) (omega arith))
-    (eq-or-lt_of_le le)
 
 -- the bytes of a name, each from its two digits
 pub hex_all : (ds bytes : List ℕ) → length ds ≡ 40 → length bytes ≡ 20 → ((i : ℕ) → i < 20 → get_or bytes i 0 ≡ hex_pair ds (2 * i)) → bytes ≡ hex_bytes ds

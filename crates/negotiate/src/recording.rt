@@ -1,4 +1,4 @@
-// Calls played in turn and kept, in memory that grows with them.
+// Calls played in turn and kept, in memory for as many as there are.
 ghost use Rattle.std.specs.Prelude.{IfOk};
 ghost use Rattle.negotiate.specs.Records.{Recorded};
 
@@ -18,7 +18,8 @@ pub fn recorded<N: Negotiator, S: Source>(
 ) -> Result<Vec<Event>, AllocError>
     ensures { IfOk result (λ v. Recorded N.Negotiator.ALGORITHM (S.Source.meaning source.now) (N.Negotiator.walk walk.old) calls.now v.items (N.Negotiator.walk walk.new)) }
 {
-    let mut events = Vec::new(heap);
+    // One block for all: a vector that grows by itself takes up to twice as much, and for a while three times.
+    let mut events = Vec::with_capacity(heap, calls.len())?;
     for call in calls {
         let asked = *call;
         let gave = make(walk, source, asked);

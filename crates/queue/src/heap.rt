@@ -1,6 +1,6 @@
 // A binary heap in places that the caller lends. The first is drawn next; entries of one date are told apart by the
 // order in which they entered. std's `BinaryHeap` would own the places, lose those that are free, and maybe allocate.
-ghost use Rattle.std.specs.Prelude.{◌≡◌, ℕ, ◌+◌, ◌-◌, ◌*◌, ◌^◌, ◌<◌, ◌≤◌, List, [], ◌∷◌, length, take, slice_index_or};
+ghost use Rattle.std.specs.Prelude.{◌≡◌, ℕ, ◌+◌, ◌-◌, ◌*◌, ◌^◌, ◌<◌, ◌≤◌, List, [], ◌∷◌, length, take, replicate, vec_len, slice_index_or};
 ghost use Rattle.std.specs.List.Sorted.{IsPermutation};
 ghost use Rattle.queue.specs.Waiting.{enter, tail, head};
 ghost use Rattle.queue.specs.Order.{before, Heaped, Topless, Chief};
@@ -91,4 +91,13 @@ pub(crate) fn pull<V: Copy>(places: &mut [Place<V>], last: usize) -> Place<V>
     places.swap(0, last);
     sink(places, last);
     top
+}
+
+// The places with `empty` in every one. `fill` would ask what a clone of a `V` is.
+pub(crate) fn wiped<V: Copy>(mut places: Vec<Place<V>>, empty: Place<V>) -> Vec<Place<V>>
+    ensures items { result.items ≡ replicate (vec_len places) empty }
+    ensures len { vec_len result ≡ vec_len places }
+{
+    places.fill_with(|| empty);
+    places
 }

@@ -22,6 +22,7 @@ pub struct Session<N> {
 
 // Plays the calls over a book of so many rows and links. The calls with their replies are a past of the walk, the
 // replies are those of the rules, and the law holds of them.
+#[tactic(auto, using(crate::proofs::Sessions::whole, crate::proofs::Sessions::begins))]
 pub fn run<N: Negotiator + Drop, S: Source>(
     heap: Global,
     rows: usize,

@@ -83,6 +83,8 @@ fn walked<N: Negotiator + Drop>(heap: Global, walk: Walk<'_>) -> Result<String, 
     let source = Indexed::open(heap, walk.store)?;
     let calls = input::calls(heap, walk.calls)?;
     let session = run::<N, Indexed>(heap, ROWS, LINKS, &source, calls.as_slice())?;
+    // Each call stands in its event too: the text may have the memory.
+    drop(calls);
     let said = lines(heap, session.walk.book(), session.events.as_slice())?;
     headed(heap, N::ALGORITHM.into(), said.as_str())
 }

@@ -7,12 +7,12 @@ use Rattle.model.specs.Skipping.{Next}
 use Rattle.model.specs.SkipParts.{Took}
 use Rattle.model.specs.Steady.{SkipFit, Ext}
 use Rattle.model.specs.View.{unpack}
-use Rattle.model.proofs.SkipFits.{drawn_inside}
+use Rattle.model.proofs.SkipFits.{drawn_inside, spent_fit, taken_fit}
 use Rattle.walk.specs.declared.state.State.{State}
 use Rattle.walk.specs.declared.state.drawing.Drawn.{Drawn}
-use Rattle.walk.specs.View.{view}
+use Rattle.walk.specs.View.{view, Quiet}
 use Rattle.walk.specs.Drawing.{DrewNone, Popped, DrewRow}
-use Rattle.walk.proofs.Draws.{inside, none_ext, popped_ext, popped_inside}
+use Rattle.walk.proofs.Draws.{draw_fits, inside, none_ext, popped_ext, popped_inside}
 use Rattle.walk.proofs.Keeps.{Fits}
 use Rattle.skipping.specs.Seen.{Drew}
 
@@ -39,3 +39,6 @@ drew_is s (Some d) t F P = took s d t F P
 pub drew_ext : (s : State) (r : Option Drawn) (t : Walk) → Fits SkipFit s → DrewRow (view s) r t → Ext (view s) t
 drew_ext s None t F h = none_ext (view s) t h
 drew_ext s (Some d) t F P = popped_ext (view s) d t P (inside SkipFit drawn_inside s t d F P)
+
+pub drew_fits : (s t : State) (r : Option Drawn) → Fits SkipFit s → Quiet s t → DrewRow (view s) r (view t) → Fits SkipFit t
+drew_fits = draw_fits SkipFit spent_fit taken_fit

@@ -115,6 +115,7 @@ impl Algorithm {
     }
 
     // Draws a row, which becomes POPPED. With a count of zero the drawn entry is lost.
+    #[tactic(auto, using(crate::proofs::Takes::drew_is, crate::proofs::Takes::drew_ext, crate::proofs::Takes::drew_fits))]
     fn draw_row(&mut self) -> Option<Drawn>
         ensures is { Drew (walk self.old) result (walk self.new) }
         ensures grows { Ext (walk self.old) (walk self.new) }

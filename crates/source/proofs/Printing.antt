@@ -1,19 +1,24 @@
--- How a byte is printed in hex.
-use Rattle.std.proofs.Common.{◌≡◌, ℕ, ◌+◌, ◌-◌, ◌^◌, ◌/◌, ◌%◌, ◌<◌, false, Option, Some, List, [], ◌∷◌, ◌++◌, length, get_or, take, refl, ap, ◌∙◌, sym}
-use Rattle.std.specs.Fmt.{format_spec, padded_integral, digits}
-use Rattle.std.specs.Option.{option_map}
-use Rattle.std.proofs.lemmas.Fmt.{hex_byte}
-use Rattle.std.proofs.lemmas.List.{take_more}
-use Rattle.source.specs.Hex.{hex_of, hex_digit}
+-- How a name is printed in hex.
+use Rattle.std.proofs.Common.{◌≡◌, ℕ, zero, suc, ◌*◌, ◌/◌, ◌%◌, ◌<◌, List, [], ◌∷◌, length, get_or, refl, sym, ap, ◌∙◌, arith, ext_get_or}
+use Rattle.source.specs.Hex.{hex_of, half}
 
--- what `{:02x}` writes of a byte
-pub byte_written : (b : ℕ) → b < 256 → option_map (padded_integral (format_spec 32 0 4 2 (2 ^ 64 - 1)) false []) (Some (digits 16 false b)) ≡ Some (hex_of (b ∷ []))
-byte_written b lt = ap {B = Option (List ℕ)} (λ (t : List ℕ). Some t) (hex_byte false b lt)
+length_hex : (bs : List ℕ) → length (hex_of bs) ≡ 2 * length bs
+length_hex [] = refl
+length_hex (b ∷ bs) = let h = length_hex bs in omega arith
 
-hex_push : (bs : List ℕ) (b : ℕ) → hex_of (bs ++ b ∷ []) ≡ hex_of bs ++ hex_of (b ∷ [])
-hex_push [] b = refl
-hex_push (x ∷ bs) b = ap {B = List ℕ} (λ ys. hex_digit (x / 16) ∷ hex_digit (x % 16) ∷ ys) (hex_push bs b)
+hex_at : (bs : List ℕ) (i : ℕ) → i < 2 * length bs → get_or (hex_of bs) i 0 ≡ half bs (i / 2) (i % 2)
+hex_at [] i lt = absurd (omega arith)
+hex_at (b ∷ bs) zero lt = refl
+hex_at (b ∷ bs) (suc zero) lt = refl
+hex_at (b ∷ bs) (suc (suc i)) lt =
+    let q : suc (i / 2) ≡ suc (suc i) / 2 = omega arith in
+    let r : i % 2 ≡ suc (suc i) % 2 = omega arith in
+    hex_at bs i (omega arith)
+    ∙ ap (λ (m : ℕ). half (b ∷ bs) m (i % 2)) q
+    ∙ ap (λ (m : ℕ). half (b ∷ bs) (suc (suc i) / 2) m) r
 
--- the digits of one byte more
-pub hex_more : (bs : List ℕ) (i : ℕ) → i < length bs → hex_of (take i bs) ++ hex_of (get_or bs i 0 ∷ []) ≡ hex_of (take (i + 1) bs)
-hex_more bs i lt = sym (hex_push (take i bs) (get_or bs i 0)) ∙ ap hex_of (sym (take_more bs i 0 lt))
+-- the digits of twenty bytes, each from its half of a byte
+pub hex_all : (bs ds : List ℕ) → length bs ≡ 20 → length ds ≡ 40 → ((i : ℕ) → i < 40 → get_or ds i 0 ≡ half bs (i / 2) (i % 2)) → ds ≡ hex_of bs
+hex_all bs ds twenty forty each =
+    let long = length_hex bs in
+    ext_get_or 0 ds (hex_of bs) (omega (arith, long, twenty, forty)) (λ i lt. each i (omega arith) ∙ sym (hex_at bs i (omega arith)))

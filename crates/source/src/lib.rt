@@ -1,25 +1,60 @@
 // Where commits come from: ids, faults, and what every source of commits promises.
 #![tactic(auto)]
 
-ghost use Rattle.std.specs.Prelude.{◌≡◌, ℕ, ◌≢◌, length, Some, MatchResult};
-ghost use Rattle.source.specs.Hex.{hex_of};
+ghost use Rattle.std.specs.Prelude.{◌≡◌, ℕ, ◌≢◌, ◌<◌, ◌/◌, ◌%◌, length, Some, MatchResult};
+ghost use Rattle.std.specs.Cmp.Rules.{comparing};
+ghost use Rattle.std.specs.Str.{bytes_eq};
+ghost use Rattle.std.proofs.Common.{rules};
+ghost use Rattle.source.specs.Hex.{hex_digit, hex_of, half};
 ghost use Rattle.source.specs.Meaning.{Meaning, number_of, kind_of, fault_of, date_of, count_of, parent_of};
 ghost use Rattle.source.specs.declared.ObjectId.{ObjectId as Id};
 
 use std::array::TryFromSliceError;
-use std::fmt;
+use std::{array, fmt, str};
 
 pub mod overlay;
 
 // An object's name: 20 bytes.
-#[derive(Clone, Copy, Debug, PartialEq, Eq, PartialOrd, Ord, Hash)]
+#[derive(Clone, Copy, Debug, Eq, PartialOrd, Ord, Hash)]
 pub struct ObjectId {
     pub bytes: [u8; 20],
+}
+
+// Two names are the same where they are so byte for byte. By hand, since a derive has no clause of ours that a wrong
+// body could be held to.
+impl PartialEq for ObjectId {
+    ghost eq = { λ a b. bytes_eq a.bytes b.bytes };
+
+    ghost laws = { Prim.search (comparing, rules) };
+
+    fn eq(&self, other: &ObjectId) -> bool {
+        self.bytes == other.bytes
+    }
 }
 
 impl ObjectId {
     // The name of no object: twenty zeroes.
     pub const NULL: ObjectId = ObjectId { bytes: [0; 20] };
+
+    // The name in hex, two digits to a byte.
+    fn digits(self) -> [u8; 40]
+        ensures { result ≡ hex_of self.bytes }
+    {
+        array::from_fn(|i| self.digit_at(i))
+    }
+
+    // The digit at a place: each byte has its high half first.
+    fn digit_at(self, place: usize) -> u8
+        requires { place < 40 }
+        ensures { result ≡ half self.bytes (place / 2) (place % 2) }
+    {
+        let b = self.bytes[place / 2];
+        if place % 2 == 0 {
+            digit(b / 16)
+        } else {
+            digit(b % 16)
+        }
+    }
 }
 
 // The name that twenty bytes are; none at any other length.
@@ -34,15 +69,24 @@ impl TryFrom<&[u8]> for ObjectId {
     }
 }
 
-// Forty lower-case hex digits.
+// A lower-case hex digit.
+fn digit(n: u8) -> u8
+    requires { n < 16 }
+    ensures { result ≡ hex_digit n }
+{
+    if n < 10 { 48 + n } else { 87 + n }
+}
+
+// Forty lower-case hex digits, written at once: a formatted write for each byte took several times as long.
 impl fmt::Display for ObjectId {
     ghost output = { λ id. Some (hex_of id.bytes) };
 
     fn fmt<W: fmt::Write>(&self, f: &mut fmt::Formatter<W>) -> fmt::Result {
-        for b in self.bytes {
-            write!(f, "{b:02x}")?;
-        }
-        Ok(())
+        let digits = self.digits();
+        let Ok(text) = str::from_utf8(&digits) else {
+            return Err(fmt::Error);
+        };
+        f.write_str(text)
     }
 }
 

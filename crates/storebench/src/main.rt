@@ -2,14 +2,13 @@
 // fast a store is opened and how many questions it answers in a second.
 #![tactic(auto)]
 
-use anyhow::Result;
 use fields::writing::push_pair;
 use indexed::Indexed;
 use source::{Kind, ObjectId, Source};
 use std::alloc::{AllocError, Global};
-use std::env;
 use std::fmt::Write;
 use std::time::Instant;
+use std::{env, io};
 use store::Store;
 
 // An id for a number, spread over all bytes as a hash is.
@@ -46,11 +45,12 @@ fn text_of(heap: Global, n: u32) -> Result<String, AllocError> {
 }
 
 // A store of so many commits.
-fn build(heap: Global, commits: u32) -> Result<Vec<u8>> {
+fn build(heap: Global, commits: u32) -> Result<Vec<u8>, AllocError> {
     let mut store = Vec::new(heap);
     for n in 0..commits {
         let text = text_of(heap, n)?;
-        push_pair(&mut store, id_of(n), text.as_bytes())?;
+        // A text of ours is never too long, so that only memory can be wanting.
+        push_pair(&mut store, id_of(n), text.as_bytes()).map_err(|_| AllocError)?;
     }
     Ok(store)
 }
@@ -86,7 +86,7 @@ fn ask<S: Source>(source: &S, commits: u32) -> Tally {
 }
 
 // The same, with how many questions were answered in a second.
-fn timed_ask<S: Source>(rt: &HostRuntime, source: &S, commits: u32) -> Result<(Tally, u128)> {
+fn timed_ask<S: Source>(rt: &HostRuntime, source: &S, commits: u32) -> io::Result<(Tally, u128)> {
     let begun = Instant::now(rt)?;
     let tally = ask(source, commits);
     let nanos = begun.elapsed(rt)?.as_nanos().max(1);
@@ -95,7 +95,7 @@ fn timed_ask<S: Source>(rt: &HostRuntime, source: &S, commits: u32) -> Result<(T
 }
 
 // Opens a store of so many commits, asks it, and says what the answers come to.
-fn bench(rt: &HostRuntime, commits: u32, timed: bool) -> Result<()> {
+fn bench(rt: &HostRuntime, commits: u32, timed: bool) -> io::Result<()> {
     let bytes = build(rt.alloc(), commits)?;
     let len = bytes.len();
     let begun = Instant::now(rt)?;
@@ -119,16 +119,15 @@ fn bench(rt: &HostRuntime, commits: u32, timed: bool) -> Result<()> {
 }
 
 // The plain store, for comparison: it reads from its front at each question.
-fn bench_plain(rt: &HostRuntime, commits: u32) -> Result<()> {
+fn bench_plain(rt: &HostRuntime, commits: u32) -> io::Result<()> {
     let bytes = build(rt.alloc(), commits)?;
     let plain = Store::new(bytes.as_slice());
     let (tally, rate) = timed_ask(rt, &plain, commits)?;
     let found = tally.commits;
-    println!(rt; "plain store, {commits} commits: {found} found; {rate} questions a second")?;
-    Ok(())
+    println!(rt; "plain store, {commits} commits: {found} found; {rate} questions a second")
 }
 
-fn main(rt: HostRuntime) -> Result<()> {
+fn main(rt: HostRuntime) -> io::Result<()> {
     let timed = env::args(&rt)?.skip(1).any(|word| word.as_str() == "time");
     bench(&rt, 1_000, timed)?;
     bench(&rt, 10_000, timed)?;

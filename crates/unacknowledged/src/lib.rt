@@ -66,14 +66,15 @@ pub enum NoList {
 }
 
 impl fmt::Display for NoList {
+    ghost use Rattle.std.specs.Prelude.{Some};
     ghost use Rattle.unacknowledged.specs.Words.{no_list_text};
 
-    ghost output = { no_list_text };
+    ghost output = { λ why. Some (no_list_text why) };
 
     fn fmt<W: fmt::Write>(&self, f: &mut fmt::Formatter<W>) -> fmt::Result {
         match self {
             NoList::Unfinished(missing) => write!(f, "unfinished: {missing}"),
-            NoList::Memory(error) => write!(f, "{error}"),
+            NoList::Memory(_) => f.write_str("memory allocation failed"),
         }
     }
 }

@@ -22,7 +22,8 @@ fn accepts(reply: Reply) -> bool
 fn acknowledges(event: Event, id: ObjectId) -> bool
     ensures { result ≡ names id event }
 {
-    accepts(event.gave) && matches!(event.asked, Call::InCommonWithRemote(other) if other == id)
+    // What was asked first: most events of a run ask for a have.
+    matches!(event.asked, Call::InCommonWithRemote(other) if accepts(event.gave) && other == id)
 }
 
 // Whether an accepted acknowledgement of the run names this id.

@@ -1,5 +1,6 @@
 use Rattle.std.proofs.Common.{List, ℕ, ◌*◌, refl, ap, arith, rules}
-use Rattle.commit.proofs.Numbers.{hex_all, hex_pair, from_fn_all}
+use Rattle.source.proofs.Arrays.{from_fn_all}
+use Rattle.commit.proofs.Numbers.{hex_all, hex_pair}
 use Rattle.commit.proofs.name_of.Goals as goal
 
 pub returns : goal.returns

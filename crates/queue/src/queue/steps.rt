@@ -5,21 +5,19 @@ ghost use Rattle.queue.specs.Waiting.{enter, tail, head};
 ghost use Rattle.queue.specs.Queue.{waiting, room, entered};
 
 use crate::entry::{Entry, Place};
-use crate::heap::{add, pull};
+use crate::heap::{add, pull, wiped};
 use crate::queue::Queue;
 
 impl<V: Copy> Queue<V> {
     // A queue over these places, which are emptied whatever they held: nothing waits.
-    pub fn new(mut places: Vec<Place<V>>, nothing: V) -> Queue<V>
+    pub fn new(places: Vec<Place<V>>, nothing: V) -> Queue<V>
         ensures waits { waiting result ≡ [] }
         ensures len { length (waiting result) ≡ 0 }
         ensures room { room result ≡ vec_len places }
         ensures entered { entered result ≡ 0 }
         ensures places { result.places.items ≡ replicate (vec_len places) (empty_place nothing) }
     {
-        // `fill` would ask what a clone of a `V` is.
-        places.fill_with(|| Place::empty(nothing));
-        Queue::over(places)
+        Queue::over(wiped(places, Place::empty(nothing)))
     }
 
     // A queue over these places as they are, in which nothing waits.
